@@ -1,0 +1,68 @@
+//! Replies to statements.
+ghost use Rattle.std.specs.Prelude.{◌≡◌, IfOk};
+
+use crate::list::List;
+use crate::memory::Memory;
+use crate::value::Row;
+use std::alloc::Global;
+
+/// What a session is told of a statement.
+#[derive(Drop)]
+pub enum Reply {
+    /// CREATE TABLE made a table.
+    Created,
+    /// So many rows were changed.
+    Changed(u64),
+    /// The rows that a SELECT lists, by key.
+    Selected(List<Row>),
+    /// BEGIN WORK opened a transaction.
+    Begun,
+    /// COMMIT WORK ended it.
+    Committed,
+    /// COMMIT WORK outside a transaction.
+    NotInTx,
+    /// BEGIN WORK inside a transaction.
+    InTx,
+    /// An INSERT over a key that is there.
+    Duplicate,
+    /// The table is not there.
+    NoTable,
+    /// The table is there already.
+    TableExists,
+    /// The statement does not fit the shape of its table, or the shape is no table's.
+    BadShape,
+}
+
+impl List<Row> {
+    /// The same rows.
+    pub fn copy(&self, alloc: Global) -> Result<List<Row>, Memory>
+        ensures { IfOk result (λ rows. rows ≡ self.now) }
+    {
+        let mut copy = List::with_capacity(alloc, self.len())?;
+        for row in self.as_slice() {
+            copy.push(row.copy(alloc)?)?;
+        }
+        Ok(copy)
+    }
+}
+
+impl Reply {
+    /// The same reply.
+    pub fn copy(&self, alloc: Global) -> Result<Reply, Memory>
+        ensures { IfOk result (λ reply. reply ≡ self.now) }
+    {
+        match self {
+            Reply::Created => Ok(Reply::Created),
+            Reply::Changed(count) => Ok(Reply::Changed(*count)),
+            Reply::Selected(rows) => Ok(Reply::Selected(rows.copy(alloc)?)),
+            Reply::Begun => Ok(Reply::Begun),
+            Reply::Committed => Ok(Reply::Committed),
+            Reply::NotInTx => Ok(Reply::NotInTx),
+            Reply::InTx => Ok(Reply::InTx),
+            Reply::Duplicate => Ok(Reply::Duplicate),
+            Reply::NoTable => Ok(Reply::NoTable),
+            Reply::TableExists => Ok(Reply::TableExists),
+            Reply::BadShape => Ok(Reply::BadShape),
+        }
+    }
+}
