@@ -1,0 +1,71 @@
+//! Happy paths of calls that may answer want of memory, and names and texts as a user writes them.
+use crate::chars::Chars;
+use crate::list::List;
+use crate::name::Name;
+use crate::plan::{DataStatement, Plan};
+use crate::reply::Reply;
+use crate::shape::{Column, Kind};
+use crate::value::Value;
+use std::test::Fail;
+
+#[test]
+fn names(rt: HostRuntime) {
+    for (text, is_name) in [
+        (b"t".as_slice(), true),
+        (b"_under_score_18byt", true),
+        (b"_nineteen_bytes_are", false),
+        (b"", false),
+        (b"9lives", false),
+        (b"Upper", false),
+        (b"b4", true),
+        (b"a b", false),
+    ] {
+        assert_eq!(rt; Name::new(text).is_some(), is_name, "{text:?}");
+    }
+}
+
+#[test]
+fn texts_lose_their_last_spaces(rt: HostRuntime) -> Result<(), Fail> {
+    let text = Chars::new(rt.alloc(), b" a b  ")?;
+    assert_eq!(rt; text.bytes(), b" a b".as_slice());
+    let copy = text.copy(rt.alloc())?;
+    assert!(rt; copy == text);
+    Ok(())
+}
+
+#[test]
+fn copies_are_given(rt: HostRuntime) -> Result<(), Fail> {
+    let alloc = rt.alloc();
+    let name = Name::new(b"t").ok_or("no name")?;
+    let mut shape = List::with_capacity(alloc, 1)?;
+    shape.push(Column {
+        name: name.copy(),
+        kind: Kind::Integer,
+    })?;
+    let mut row = List::new(alloc);
+    row.push(Value::Int(7))?;
+    row.push(Value::Chars(Chars::new(alloc, b"ab")?))?;
+    let mut more = List::new(alloc);
+    more.push(Value::Int(8))?;
+    row.append(more)?;
+    assert_eq!(rt; row.len(), 3);
+    let plan = Plan::Data(DataStatement::Insert {
+        table: name.copy(),
+        row: row.copy(alloc)?,
+    });
+    let create = Plan::Data(DataStatement::CreateTable { table: name, shape });
+    assert!(rt; matches!(plan.copy(alloc)?, Plan::Data(DataStatement::Insert { .. })));
+    assert!(rt;
+        matches!(
+            create.copy(alloc)?,
+            Plan::Data(DataStatement::CreateTable { .. })
+        )
+    );
+    let mut rows = List::new(alloc);
+    rows.push(row)?;
+    let Reply::Selected(copied) = Reply::Selected(rows).copy(alloc)? else {
+        return Err("another reply".into());
+    };
+    assert_eq!(rt; copied.len(), 1);
+    Ok(())
+}
