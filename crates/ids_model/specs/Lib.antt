@@ -1,0 +1,11 @@
+pub mod Answered
+pub mod Fits
+pub mod Legal
+pub mod Matches
+pub mod Meaning
+pub mod Moves
+pub mod Puts
+pub mod Rows
+pub mod Served
+pub mod Tables
+pub mod Text

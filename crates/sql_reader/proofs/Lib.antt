@@ -1,0 +1,15 @@
+pub mod Form
+pub mod Ebnf
+pub mod Tokens
+pub mod Places
+pub mod Steps
+pub mod Rows
+pub mod Stands
+pub mod Table
+pub mod Lines
+pub mod Meanings
+pub mod Nexts
+pub mod Ways
+pub mod Walks
+pub mod Unique
+pub mod Plenty

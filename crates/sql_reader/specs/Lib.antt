@@ -1,0 +1,11 @@
+pub mod Form
+pub mod Ebnf
+pub mod Tokens
+pub mod Places
+pub mod Grammar
+pub mod Judging
+pub mod Lines
+pub mod Checks
+pub mod Plans
+pub mod Gaps
+pub mod Reading

@@ -1,0 +1,185 @@
+//! The plan of a statement.
+ghost use Rattle.std.specs.Prelude.{◌≡◌, ◌∷◌, [], cond, length, ◌<◌, IfOk};
+ghost use Rattle.sql_reader.specs.declared.token.Keyword.TheVariants as keyword;
+ghost use Rattle.sql_reader.specs.declared.place.Place.TheVariants as place;
+ghost use Rattle.sql_reader.specs.Grammar.{IsStatementText};
+ghost use Rattle.sql_reader.specs.Plans.{column_items, shape_items, row_items, items_of_plan, IsPlanOf};
+ghost use Rattle.sql_reader.specs.Reading.{IsOn, IsBehind, IsSilent, Went};
+
+use crate::place::Place;
+use crate::reader::Reader;
+use crate::script::CheckedText;
+use crate::token::{Keyword, Kind, Sign};
+use ids_base::list::List;
+use ids_base::memory::Memory;
+use ids_base::plan::{Comparison, DataStatement, Plan, Term};
+use ids_base::shape::{Column, Shape};
+use ids_base::value::Row;
+use std::alloc::Global;
+
+fn first_column(reader: &mut Reader) -> Column
+    requires on { IsOn reader.old }
+    requires at { reader.old.place ≡ place.Column }
+    ensures on { IsOn reader.new }
+    ensures to { reader.new.place ≡ place.ColumnEnd }
+    ensures went { Went reader.old reader.new (column_items result) }
+{
+    let name = reader.name(Place::ColumnKind);
+    let kind = reader.kind(Place::CharSize, Place::CharClose, Place::ColumnEnd);
+    Column { name, kind }
+}
+
+// Whether another column follows the first, behind PRIMARY KEY where that is there.
+fn follows_first(reader: &mut Reader) -> bool
+    requires on { IsOn reader.old }
+    requires at { reader.old.place ≡ place.ColumnEnd }
+    ensures on { IsOn reader.new }
+    ensures to { reader.new.place ≡ cond result place.Next place.StatementEnd }
+    ensures went { Went reader.old reader.new [] }
+{
+    match reader.next().kind {
+        Kind::Word(_) => {
+            reader.only(Kind::Word(Keyword::Key), Place::NextEnd);
+            reader.comma(Place::Next)
+        }
+        Kind::Sign(Sign::Comma) => true,
+        _ => false,
+    }
+}
+
+fn next_column(reader: &mut Reader) -> Column
+    requires on { IsOn reader.old }
+    requires at { reader.old.place ≡ place.Next }
+    ensures on { IsOn reader.new }
+    ensures to { reader.new.place ≡ place.NextEnd }
+    ensures went { Went reader.old reader.new (column_items result) }
+    ensures less { length reader.new.rest.now < length reader.old.rest.now }
+{
+    let name = reader.name(Place::NextKind);
+    let kind = reader.kind(Place::NextCharSize, Place::NextCharClose, Place::NextEnd);
+    Column { name, kind }
+}
+
+// The columns in brackets, behind the opening one.
+fn shape(alloc: Global, reader: &mut Reader) -> Result<Shape, Memory>
+    requires on { IsOn reader.old }
+    requires at { reader.old.place ≡ place.Column }
+    ensures on { IfOk result (λ _. IsOn reader.new) }
+    ensures to { IfOk result (λ _. reader.new.place ≡ place.StatementEnd) }
+    ensures went { IfOk result (λ shape. Went reader.old reader.new (shape_items shape)) }
+{
+    let mut shape = List::new(alloc);
+    shape.push(first_column(reader))?;
+    let mut more = follows_first(reader);
+    while more {
+        shape.push(next_column(reader))?;
+        more = reader.comma(Place::Next);
+    }
+    Ok(shape)
+}
+
+// The values in brackets, behind the opening one.
+fn row(alloc: Global, reader: &mut Reader) -> Result<Row, Memory>
+    requires on { IsOn reader.old }
+    requires at { reader.old.place ≡ place.Value }
+    ensures on { IfOk result (λ _. IsOn reader.new) }
+    ensures to { IfOk result (λ _. reader.new.place ≡ place.StatementEnd) }
+    ensures went { IfOk result (λ row. Went reader.old reader.new (row_items row)) }
+{
+    let mut row = List::new(alloc);
+    let mut more = true;
+    while more {
+        row.push(reader.value(alloc, Place::ValueEnd)?)?;
+        more = reader.comma(Place::Value);
+    }
+    Ok(row)
+}
+
+// CREATE TABLE, behind its first word.
+fn create(alloc: Global, reader: &mut Reader) -> Result<DataStatement, Memory>
+    requires on { IsOn reader.old }
+    requires at { reader.old.place ≡ place.Create }
+    ensures on { IfOk result (λ _. IsOn reader.new) }
+    ensures to { IfOk result (λ _. reader.new.place ≡ place.StatementEnd) }
+    ensures says { IfOk result (λ statement. IsBehind keyword.Create reader.old reader.new statement) }
+{
+    reader.only(Kind::Word(Keyword::Table), Place::CreateTable);
+    let table = reader.name(Place::CreateName);
+    reader.only(Kind::Sign(Sign::Open), Place::Column);
+    let shape = shape(alloc, reader)?;
+    Ok(DataStatement::CreateTable { table, shape })
+}
+
+// INSERT, behind its first word.
+fn insert(alloc: Global, reader: &mut Reader) -> Result<DataStatement, Memory>
+    requires on { IsOn reader.old }
+    requires at { reader.old.place ≡ place.Insert }
+    ensures on { IfOk result (λ _. IsOn reader.new) }
+    ensures to { IfOk result (λ _. reader.new.place ≡ place.StatementEnd) }
+    ensures says { IfOk result (λ statement. IsBehind keyword.Insert reader.old reader.new statement) }
+{
+    reader.only(Kind::Word(Keyword::Into), Place::InsertInto);
+    let table = reader.name(Place::InsertName);
+    reader.only(Kind::Word(Keyword::Values), Place::InsertValues);
+    reader.only(Kind::Sign(Sign::Open), Place::Value);
+    let row = row(alloc, reader)?;
+    Ok(DataStatement::Insert { table, row })
+}
+
+// SELECT, behind its first word.
+fn select(alloc: Global, reader: &mut Reader) -> Result<DataStatement, Memory>
+    requires on { IsOn reader.old }
+    requires at { reader.old.place ≡ place.Select }
+    ensures on { IfOk result (λ _. IsOn reader.new) }
+    ensures to { IfOk result (λ _. reader.new.place ≡ place.StatementEnd) }
+    ensures says { IfOk result (λ statement. IsBehind keyword.Select reader.old reader.new statement) }
+{
+    reader.only(Kind::Sign(Sign::Star), Place::SelectWhat);
+    reader.only(Kind::Word(Keyword::From), Place::SelectFrom);
+    let table = reader.name(Place::SelectTable);
+    reader.only(Kind::Word(Keyword::Where), Place::Where);
+    let column = reader.name(Place::TermName);
+    reader.only(Kind::Sign(Sign::Equal), Place::TermValue);
+    let value = reader.value(alloc, Place::StatementEnd)?;
+    let mut condition = List::new(alloc);
+    condition.push(Term {
+        column,
+        comparison: Comparison::Equal,
+        value,
+    })?;
+    Ok(DataStatement::Select { table, condition })
+}
+
+// A statement up to what says nothing.
+fn statement(alloc: Global, reader: &mut Reader) -> Result<Plan, Memory>
+    requires on { IsOn reader.old }
+    requires at { reader.old.place ≡ place.StatementStart }
+    ensures on { IfOk result (λ _. IsOn reader.new) }
+    ensures to { IfOk result (λ _. IsSilent reader.new.place) }
+    ensures went { IfOk result (λ plan. Went reader.old reader.new (items_of_plan plan)) }
+{
+    match reader.word() {
+        Keyword::Begin => Ok(Plan::Begin),
+        Keyword::Commit => Ok(Plan::Commit),
+        Keyword::Create => Ok(Plan::Data(create(alloc, reader)?)),
+        Keyword::Insert => Ok(Plan::Data(insert(alloc, reader)?)),
+        _ => Ok(Plan::Data(select(alloc, reader)?)),
+    }
+}
+
+/// The plan of a statement's text. Linear time.
+pub(crate) fn read_plan(alloc: Global, text: &[u8]) -> Result<Plan, Memory>
+    requires { IsStatementText text.now }
+    ensures { IfOk result (λ plan. IsPlanOf text.now plan) }
+{
+    let mut reader = Reader::new(text);
+    statement(alloc, &mut reader)
+}
+
+/// The plan of a statement: what the one reading of its text says. Takes memory for the plan alone, and for a text with
+/// quote signs once more for that text. Linear time.
+pub fn plan_of(alloc: Global, statement: &CheckedText) -> Result<Plan, Memory>
+    ensures { IfOk result (λ plan. IsPlanOf statement.now plan) }
+{
+    read_plan(alloc, statement.bytes())
+}
