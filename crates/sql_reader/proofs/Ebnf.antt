@@ -1,5 +1,5 @@
 -- A grammar against a table of places.
-use Rattle.std.proofs.Common.{◌≡◌, ℕ, Bool, true, false, ◌&&◌, ◌||◌, List, [], ◌∷◌, ◌++◌, ◌⊎◌, inl, inr, refl, sym, ◌∙◌, ap, subst, append_assoc, map, cond}
+use Rattle.std.proofs.Common.{◌≡◌, Bool, true, false, ◌&&◌, ◌||◌, List, [], ◌∷◌, ◌++◌, ◌⊎◌, inl, inr, refl, sym, ◌∙◌, ap, subst, append_assoc, cond}
 use Rattle.sql_reader.specs.Form.{Lexicon, InRow, Runs}
 use Rattle.sql_reader.specs.Ebnf.{Grammar, nothing, token, both, either, many, Pieces, done, piece, Derives}
 use Rattle.sql_reader.proofs.Form.{true_false}

@@ -1,9 +1,8 @@
 -- What a place's language becomes behind a token.
-use Rattle.std.proofs.Common.{◌≡◌, ℕ, Bool, true, false, cond, not, ◌&&◌, ◌||◌, List, [], ◌∷◌, ◌++◌, ◌⊎◌, inl, inr, length, ◌<◌, refl, sym, ◌∙◌, ap, subst, append_assoc, arith}
-use Rattle.std.specs.List.{list_all}
+use Rattle.std.proofs.Common.{◌≡◌, ℕ, Bool, true, false, List, [], ◌∷◌, ◌++◌, inl, inr, refl, sym, ◌∙◌, ap, subst, append_assoc, arith}
 use Rattle.sql_reader.specs.declared.token.Edge.{Edge}
 use Rattle.sql_reader.specs.declared.token.Edge.TheVariants.{Free, Wordy, Closed}
-use Rattle.sql_reader.specs.Form.{kinds, Reads, Lexicon, InRow, Runs, is_empty, is_gap, is_open, fits, Spelled, From, Sound, Lawful}
+use Rattle.sql_reader.specs.Form.{kinds, Reads, Lexicon, InRow, Runs, is_gap, is_open, fits, Spelled, From, Sound, Lawful}
 
 pub true_false : {A : Type 0} {b : Bool} → b ≡ true → b ≡ false → A
 true_false t f = absurd (cc)

@@ -1,8 +1,9 @@
 -- What tokens stand for.
-use Rattle.std.proofs.Common.{◌≡◌, ℕ, zero, suc, ◌+◌, ◌*◌, ◌-◌, ◌≤◌, ◌<◌, Bool, true, false, cond, not, ◌&&◌, ◌||◌, ◌==◌, nat_le, nat_lt, set, List, [], ◌∷◌, ◌++◌, map, length, refl, sym, ◌∙◌, ap, subst, append_assoc, arith, take, drop, get_or}
+use Rattle.std.proofs.Common.{◌≡◌, ℕ, zero, suc, ◌+◌, ◌*◌, ◌-◌, ◌≤◌, ◌<◌, Bool, true, false, cond, not, ◌&&◌, ◌==◌, nat_le, nat_lt, set, List, [], ◌∷◌, ◌++◌, map, length, refl, sym, ◌∙◌, ap, append_assoc, arith, take, drop, get_or}
 use Rattle.std.specs.List.{list_all}
 use Rattle.std.proofs.lemmas.List.{take-append-drop, take_all, append-nil}
 use Rattle.ids_base.specs.Names.{is_name as is_small_name, is_name_start, is_name_byte}
+use Rattle.sql_reader.specs.Form.{is_empty}
 use Rattle.sql_reader.specs.Tokens.{is_letter, is_digit, is_word_byte, is_name, is_number, is_digits, is_signed, is_text, lower, value, greatest}
 use Rattle.sql_reader.specs.Plans.{unquoted, text_value}
 use Rattle.ids_base.specs.Texts.{is_printable, is_printable_text}
@@ -10,7 +11,7 @@ use Rattle.sql_reader.specs.declared.reach.TextState.{TextState}
 use Rattle.sql_reader.specs.declared.reach.TextState.TheVariants.{Dead, Inside, Behind}
 use Rattle.sql_reader.specs.Tokens.{is_quote, text_step, text_scan, is_behind}
 use Rattle.sql_reader.proofs.Form.{true_false}
-use Rattle.sql_reader.proofs.Tokens.{left, right, both, value_front, all_at, scan_dead}
+use Rattle.sql_reader.proofs.Tokens.{left, right, both, value_front, scan_dead}
 use Rattle.sql_reader.proofs.Steps.{take_next, number_value}
 use Rattle.sql_reader.proofs.Stands.{drop_next}
 
@@ -77,7 +78,7 @@ pub record NumberNext (p : List ℕ) (i n : ℕ) : Type 0 where
 
 pub number_next : (p : List ℕ) (i n : ℕ) → is_number p ≡ true → i < length p → n ≡ value 0 (take i p) → NumberNext p i n
 number_next p i n h a e =
-    let d : DigitBounds (get_or p i 0) = digit_bounds (get_or p i 0) (digit_at p i (left _ _ (right _ _ h)) a) in
+    let d : DigitBounds (get_or p i 0) = digit_bounds (get_or p i 0) (digit_at p i (left (list_all is_digit p) (nat_le (value 0 p) greatest) (right (not (is_empty p)) (is_digits p) h)) a) in
     let m : n * 10 + (get_or p i 0 - 48) ≡ value 0 (take (i + 1) p) = ap (λ v. v * 10 + (get_or p i 0 - 48)) e ∙ sym (number_value p i a) in
     record { least = d.0; most = d.1; more = m; fits = omega (arith, m, front_small p (i + 1) h) }
 

@@ -1,24 +1,24 @@
 -- The next token of what is left.
-use Rattle.std.proofs.Common.{◌≡◌, ℕ, zero, suc, ◌+◌, ◌-◌, ◌≤◌, ◌<◌, Bool, true, false, cond, nat_eq, List, [], ◌∷◌, ◌++◌, ◌⊎◌, inl, inr, length, refl, sym, ◌∙◌, ap, subst, append_assoc, arith, take, drop, get_or, length-drop, Option, Some, None}
+use Rattle.std.proofs.Common.{◌≡◌, ℕ, zero, suc, ◌+◌, ◌-◌, ◌≤◌, ◌<◌, Bool, true, false, List, [], ◌∷◌, ◌++◌, ◌⊎◌, inl, inr, length, refl, sym, ◌∙◌, ap, subst, arith, take, drop, get_or, length-drop, Option, Some, None}
 use Rattle.std.specs.List.{list_all}
 use Rattle.std.proofs.lemmas.List.Folds.{list_all-append}
-use Rattle.std.proofs.lemmas.List.{take-append-drop, take_all}
+use Rattle.std.proofs.lemmas.List.{take-append-drop}
 use Rattle.std.proofs.Math.Seq.{drop-drop}
 use Rattle.sql_reader.specs.declared.token.Edge.{Edge}
 use Rattle.sql_reader.specs.declared.token.Edge.TheVariants.{Free, Wordy, Closed}
 use Rattle.sql_reader.specs.declared.token.Kind.{Kind}
 use Rattle.sql_reader.specs.declared.place.Place.{Place}
-use Rattle.sql_reader.specs.Form.{InRow, Runs, From, Reads, Spelled, kinds, is_gap, is_empty, fits}
-use Rattle.sql_reader.specs.Tokens.{whole, begins, clings, edge, is_blank}
+use Rattle.sql_reader.specs.Form.{InRow, From, is_gap, is_empty, fits}
+use Rattle.sql_reader.specs.Tokens.{whole, clings, edge, is_blank}
 use Rattle.sql_reader.specs.Places.{row, ends, lexicon}
 use Rattle.sql_reader.specs.Judging.{Munched}
 use Rattle.sql_reader.specs.Gaps.{edge_past, IsGapLength}
 use Rattle.sql_reader.specs.Reading.{Next}
-use Rattle.sql_reader.proofs.Form.{true_false, blank_in, munch, barred, at_end, Stops, Takes}
-use Rattle.sql_reader.proofs.Tokens.{left, right, both, sound, some}
+use Rattle.sql_reader.proofs.Form.{true_false, blank_in, munch, barred, at_end, Takes}
+use Rattle.sql_reader.proofs.Tokens.{left, right, both, sound}
 use Rattle.sql_reader.proofs.Places.{laws, one}
 use Rattle.sql_reader.proofs.Steps.{take_next}
-use Rattle.sql_reader.proofs.Stands.{drop_next, all_of, ends_of, gap_byte}
+use Rattle.sql_reader.proofs.Stands.{drop_next, all_of, ends_of}
 
 -- a byte of a gap
 abbrev pub gap_test : Edge → ℕ → Bool

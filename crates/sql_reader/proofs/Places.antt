@@ -1,27 +1,21 @@
 -- The laws of the table of places.
-use Rattle.std.proofs.Common.{◌≡◌, ℕ, ◌+◌, ◌*◌, ◌-◌, ◌≤◌, Bool, true, false, cond, not, ◌&&◌, ◌||◌, ◌==◌, nat_le, nat_lt, nat_eq, List, [], ◌∷◌, ◌++◌, ◌⊎◌, inl, inr, length, ◌<◌, refl, sym, ◌∙◌, ap, subst, append_assoc, arith, length-append}
+use Rattle.std.proofs.Common.{◌≡◌, ℕ, ◌+◌, Bool, true, false, cond, not, ◌&&◌, ◌||◌, ◌==◌, nat_eq, List, [], ◌∷◌, ◌++◌, ◌⊎◌, inl, inr, refl, sym, ◌∙◌, ap, subst, arith}
 use Rattle.std.specs.List.{list_all}
-use Rattle.std.proofs.lemmas.List.Folds.{list_all-append}
-use Rattle.std.proofs.lemmas.List.{append-nil}
-use Rattle.std.proofs.lemmas.Grind.{common_steps}
-use Rattle.sql_reader.specs.declared.token.Keyword.{Keyword}
 use Rattle.sql_reader.specs.declared.token.Keyword.TheVariants as keyword
 use Rattle.sql_reader.specs.declared.token.Kind.{Kind}
 use Rattle.sql_reader.specs.declared.token.Kind.TheVariants.{Word, Name, Number, Signed, Text, Sign, Comment}
-use Rattle.sql_reader.specs.declared.reach.TextState.{TextState}
-use Rattle.sql_reader.specs.declared.reach.TextState.TheVariants.{Dead, Inside, Behind}
+use Rattle.sql_reader.specs.declared.reach.TextState.TheVariants.{Inside}
 use Rattle.sql_reader.specs.declared.token.Sign.{Sign as SignOf}
 use Rattle.sql_reader.specs.declared.token.Sign.TheVariants as sign
 use Rattle.sql_reader.specs.declared.place.Place.{Place}
 use Rattle.sql_reader.specs.declared.place.Place.TheVariants as place
-use Rattle.sql_reader.specs.Form.{Lexicon, InRow, Runs, is_empty, Spelled, From, Sound, Lawful}
-use Rattle.sql_reader.proofs.Form.{true_false, barred, Stops}
-use Rattle.sql_reader.specs.declared.token.Edge.{Edge}
+use Rattle.sql_reader.specs.Form.{InRow, Runs, From, Lawful}
+use Rattle.sql_reader.proofs.Form.{true_false, barred}
 use Rattle.sql_reader.specs.declared.token.Edge.TheVariants.{Free, Wordy, Closed}
 use Rattle.sql_reader.specs.Form.{fits, is_gap}
 use Rattle.sql_reader.specs.Tokens.{is_quote, text_scan, is_live, is_text, letters, is_blank, is_letter, is_digit, is_word_byte, is_digits, is_number, is_word, begins_word, byte_of, whole, begins, clings, edge, is_signed}
-use Rattle.sql_reader.specs.Places.{row, ends, lexicon}
-use Rattle.sql_reader.proofs.Tokens.{left, right, both, scan-append, behind_next, or_right, starts, some, is_small, all_small, small_letter, letter_byte, digit_byte, byte_solid, quote_no_byte, quote_no_dash, dash_no_byte, word_last, all_at, sign_byte, signed_first, first, sound}
+use Rattle.sql_reader.specs.Places.{row, lexicon}
+use Rattle.sql_reader.proofs.Tokens.{left, right, scan-append, behind_next, or_right, starts, some, is_small, all_small, small_letter, letter_byte, digit_byte, byte_solid, quote_no_byte, quote_no_dash, dash_no_byte, word_last, all_at, sign_byte, signed_first, first, sound}
 
 abbrev differ : List ℕ → List ℕ → Bool
 differ [] [] = false

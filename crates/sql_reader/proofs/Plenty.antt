@@ -1,9 +1,8 @@
 -- Each statement has a plan.
-use Rattle.std.proofs.Common.{◌≡◌, ℕ, List, [], ◌∷◌, ◌++◌, ◌⊎◌, inl, inr, Bool, true, false, cond, map, refl, sym, ◌∙◌, ap, subst, append_assoc}
+use Rattle.std.proofs.Common.{◌≡◌, ℕ, List, [], ◌∷◌, ◌++◌, inl, inr, true, false, cond, map, refl, sym, ◌∙◌, ap, subst}
 use Rattle.std.specs.List.{filter}
 use Rattle.std.proofs.lemmas.List.{append-nil}
 use Rattle.ids_base.specs.declared.plan.Comparison.TheVariants.{Equal}
-use Rattle.ids_base.specs.declared.plan.Term.{Term}
 use Rattle.ids_base.specs.declared.plan.DataStatement.{DataStatement}
 use Rattle.ids_base.specs.declared.plan.DataStatement.TheVariants.{CreateTable, Insert, Select}
 use Rattle.ids_base.specs.declared.plan.Plan.{Plan}
@@ -24,8 +23,8 @@ use Rattle.sql_reader.specs.Form.{kinds}
 use Rattle.sql_reader.specs.Ebnf.{Grammar, nothing, token, both, either, many, Pieces, done, piece, Derives, optional}
 use Rattle.sql_reader.specs.Tokens.{lower, value as digits_value}
 use Rattle.sql_reader.specs.Grammar.{column, create, value, insert, select, statement, statement_line, IsLine, IsStatementText, IsReading}
-use Rattle.sql_reader.specs.Lines.{AreLines, InGrammar, lines_of, is_statement_line, statements_of, sessions, texts_of}
-use Rattle.sql_reader.specs.Plans.{Item, says_word, says_name, says_size, signed_value, size_of, text_value, word_items, sign_items, token_items, items_of_tokens, value_item, kind_items, column_items, shape_items, row_items, condition_items, statement_items, items_of_plan, IsPlanOf, Each, IsScriptOf}
+use Rattle.sql_reader.specs.Lines.{AreLines, InGrammar, lines_of, is_statement_line, statements_of, sessions}
+use Rattle.sql_reader.specs.Plans.{Item, says_word, says_name, says_size, signed_value, size_of, text_value, word_items, sign_items, token_items, items_of_tokens, value_item, kind_items, column_items, shape_items, row_items, statement_items, items_of_plan, IsPlanOf, Each, IsScriptOf}
 use Rattle.sql_reader.proofs.Table.{some_reading}
 use Rattle.sql_reader.proofs.Ways.{items-append}
 use Rattle.sql_reader.proofs.Lines.{statement_of}

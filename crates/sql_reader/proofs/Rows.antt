@@ -1,15 +1,15 @@
 -- The longest token of a place's row.
-use Rattle.std.proofs.Common.{◌≡◌, ℕ, ◌+◌, ◌≤◌, Bool, true, false, List, [], ◌∷◌, ◌++◌, ◌⊎◌, inl, inr, length, ◌<◌, refl, sym, ◌∙◌, ap, subst, arith, take, drop, get_or, nat_le, length-drop, Option, Some, None}
+use Rattle.std.proofs.Common.{◌≡◌, ℕ, ◌+◌, ◌≤◌, Bool, true, false, List, [], ◌∷◌, ◌++◌, ◌⊎◌, inl, inr, length, ◌<◌, refl, sym, ◌∙◌, ap, subst, arith, take, drop, nat_le, length-drop, Option, Some, None}
 use Rattle.std.proofs.lemmas.List.{take-append-drop, length-take-le, take-append-le, append-nil, nil_from_length}
 use Rattle.std.proofs.lemmas.Bool.{false_from_ne_true}
 use Rattle.sql_reader.specs.declared.token.Kind.{Kind}
 use Rattle.sql_reader.specs.declared.place.Place.{Place}
 use Rattle.sql_reader.specs.declared.token.Edge.{Edge}
-use Rattle.sql_reader.specs.Form.{InRow, fits}
+use Rattle.sql_reader.specs.Form.{fits}
 use Rattle.sql_reader.specs.Tokens.{whole, begins, clings}
 use Rattle.sql_reader.specs.Judging.{Reached, Munched}
 use Rattle.sql_reader.proofs.Form.{true_false}
-use Rattle.sql_reader.proofs.Tokens.{front, starts, some}
+use Rattle.sql_reader.proofs.Tokens.{front, starts}
 
 take_again : (i j : ℕ) (xs : List ℕ) → i ≤ j → take i (take j xs) ≡ take i xs
 take_again i j xs h = sym (take-append-le-or i (take j xs) (drop j xs) (go i j xs h)) ∙ ap (take i) (take-append-drop j xs)

@@ -1,6 +1,6 @@
 -- What has been read, and what may follow.
-use Rattle.std.proofs.Common.{◌≡◌, ℕ, zero, suc, ◌+◌, ◌-◌, ◌≤◌, Bool, true, false, List, [], ◌∷◌, ◌++◌, ◌⊎◌, inl, inr, length, ◌<◌, refl, sym, ◌∙◌, ap, subst, arith, take, drop, get_or, Option, Some, None, append_assoc, length-append, length-drop, nat_lt}
-use Rattle.std.proofs.lemmas.List.{take-append-drop, length-take-le, take-append-le, append-nil, take_all, nil_from_length}
+use Rattle.std.proofs.Common.{◌≡◌, ℕ, zero, suc, ◌+◌, ◌-◌, ◌≤◌, true, false, List, [], ◌∷◌, ◌++◌, ◌⊎◌, inl, inr, length, ◌<◌, refl, sym, ◌∙◌, ap, subst, arith, take, drop, get_or, Option, Some, None, append_assoc, length-append, length-drop, nat_lt}
+use Rattle.std.proofs.lemmas.List.{take-append-drop, length-take-le, take-append-le, append-nil, take_all}
 use Rattle.sql_reader.specs.declared.token.Kind.{Kind}
 use Rattle.sql_reader.specs.declared.place.Place.{Place}
 use Rattle.sql_reader.specs.declared.place.Place.TheVariants as place
@@ -11,7 +11,7 @@ use Rattle.sql_reader.specs.Form.{InRow, fits, From, is_gap, is_open}
 use Rattle.sql_reader.specs.Tokens.{whole, begins, clings, edge, is_blank}
 use Rattle.sql_reader.specs.Places.{row, ends, lexicon}
 use Rattle.sql_reader.specs.Judging.{RunsThrough, IsFront, IsLongestFront, Munched, Judged}
-use Rattle.sql_reader.proofs.Form.{true_false, blank_in, blank_out, take_token, munch, barred, live, live_token, at_end, ended, Stops, Takes}
+use Rattle.sql_reader.proofs.Form.{true_false, blank_in, blank_out, take_token, munch, barred, live, live_token, at_end, ended, Stops}
 use Rattle.std.proofs.Math.Seq.{take-add, drop-drop}
 use Rattle.sql_reader.proofs.Steps.{take_next}
 use Rattle.sql_reader.proofs.Tokens.{sound, starts}

@@ -1,18 +1,16 @@
 -- How far a token goes.
-use Rattle.std.proofs.Common.{◌≡◌, ℕ, zero, suc, nat_lt, ◌≢◌, ◌+◌, ◌*◌, ◌-◌, ◌≤◌, Bool, true, false, cond, not, ◌&&◌, ◌||◌, ◌==◌, nat_le, nat_eq, List, [], ◌∷◌, ◌++◌, ◌⊎◌, inl, inr, length, ◌<◌, refl, sym, ◌∙◌, ap, subst, append_assoc, arith, length-append, take, drop, get_or}
+use Rattle.std.proofs.Common.{◌≡◌, ℕ, zero, suc, nat_lt, ◌+◌, ◌*◌, ◌-◌, ◌≤◌, Bool, true, false, cond, ◌&&◌, ◌==◌, nat_le, List, [], ◌∷◌, ◌++◌, length, ◌<◌, refl, sym, ◌∙◌, ap, subst, arith, length-append, take, drop, get_or}
 use Rattle.std.specs.List.{list_all}
 use Rattle.std.proofs.lemmas.List.Folds.{list_all-append}
-use Rattle.std.proofs.lemmas.List.{length-take-le, take-append-le, take_all}
-use Rattle.std.proofs.Math.Seq.{take-length}
+use Rattle.std.proofs.lemmas.List.{length-take-le, take_all}
 use Rattle.sql_reader.specs.declared.token.Keyword.{Keyword}
-use Rattle.sql_reader.specs.declared.token.Kind.{Kind}
-use Rattle.sql_reader.specs.declared.token.Kind.TheVariants.{Word, Name, Number, Signed, Text, Sign, Comment}
+use Rattle.sql_reader.specs.declared.token.Kind.TheVariants.{Word, Name, Number, Signed, Text, Comment}
 use Rattle.sql_reader.specs.declared.reach.TextState.{TextState}
-use Rattle.sql_reader.specs.declared.reach.TextState.TheVariants.{Dead, Inside, Behind}
-use Rattle.sql_reader.specs.Tokens.{is_quote, text_step, text_scan, is_live, is_behind, is_text, begins_text, letters, is_letter, is_digit, is_word_byte, is_plain, lower, is_name, value, greatest, is_digits, is_number, is_signed, begins_signed, is_word, begins_word, byte_of, is_byte, is_comment, begins_comment, whole, begins}
+use Rattle.sql_reader.specs.declared.reach.TextState.TheVariants.{Inside}
+use Rattle.sql_reader.specs.Tokens.{is_quote, text_step, text_scan, is_live, is_behind, is_text, begins_text, letters, is_letter, is_digit, is_word_byte, is_plain, lower, is_name, value, greatest, is_digits, is_number, is_word, begins_word, whole, begins}
 use Rattle.sql_reader.specs.Judging.{Reached}
 use Rattle.sql_reader.proofs.Form.{true_false}
-use Rattle.sql_reader.proofs.Tokens.{left, right, both, scan-append}
+use Rattle.sql_reader.proofs.Tokens.{left, right, scan-append}
 
 pub take_next : (i : ℕ) (xs : List ℕ) → i < length xs → take (i + 1) xs ≡ take i xs ++ (get_or xs i 0 ∷ [])
 take_next i [] h = grind arith

@@ -1,5 +1,5 @@
 -- The table is the grammar's.
-use Rattle.std.proofs.Common.{◌≡◌, ℕ, zero, suc, List, [], ◌∷◌, ◌++◌, refl, subst, sym, inl, inr}
+use Rattle.std.proofs.Common.{◌≡◌, ℕ, zero, suc, List, [], ◌∷◌, refl, subst, sym}
 use Rattle.sql_reader.specs.declared.token.Kind.{Kind}
 use Rattle.sql_reader.specs.declared.place.Place.{Place}
 use Rattle.sql_reader.specs.declared.place.Place.TheVariants as place

@@ -1,9 +1,8 @@
 -- The laws of the tokens.
-use Rattle.std.proofs.Common.{◌≡◌, ℕ, ◌+◌, ◌*◌, ◌-◌, ◌≤◌, Bool, true, false, cond, not, ◌&&◌, ◌||◌, ◌==◌, nat_le, nat_lt, nat_eq, List, [], ◌∷◌, ◌++◌, ◌⊎◌, inl, inr, length, ◌<◌, refl, sym, ◌∙◌, ap, subst, append_assoc, arith, length-append}
+use Rattle.std.proofs.Common.{◌≡◌, ℕ, ◌+◌, ◌*◌, ◌-◌, ◌≤◌, Bool, true, false, cond, not, ◌&&◌, ◌||◌, ◌==◌, nat_le, nat_lt, List, [], ◌∷◌, ◌++◌, ◌⊎◌, inl, inr, length, refl, sym, ◌∙◌, ap, subst, arith, length-append}
 use Rattle.std.specs.List.{list_all}
 use Rattle.std.proofs.lemmas.List.Folds.{list_all-append}
 use Rattle.std.proofs.lemmas.List.{append-nil}
-use Rattle.std.proofs.lemmas.Grind.{common_steps}
 use Rattle.sql_reader.specs.declared.token.Keyword.{Keyword}
 use Rattle.sql_reader.specs.declared.token.Keyword.TheVariants as keyword
 use Rattle.sql_reader.specs.declared.token.Kind.{Kind}
@@ -12,13 +11,8 @@ use Rattle.sql_reader.specs.declared.reach.TextState.{TextState}
 use Rattle.sql_reader.specs.declared.reach.TextState.TheVariants.{Dead, Inside, Behind}
 use Rattle.sql_reader.specs.declared.token.Sign.{Sign as SignOf}
 use Rattle.sql_reader.specs.declared.token.Sign.TheVariants as sign
-use Rattle.sql_reader.specs.declared.place.Place.{Place}
-use Rattle.sql_reader.specs.declared.place.Place.TheVariants as place
-use Rattle.sql_reader.specs.Form.{Lexicon, InRow, Runs, is_empty, Spelled, From, Sound, Lawful}
-use Rattle.sql_reader.proofs.Form.{true_false, barred, Stops}
-use Rattle.sql_reader.specs.declared.token.Edge.{Edge}
-use Rattle.sql_reader.specs.declared.token.Edge.TheVariants.{Free, Wordy, Closed}
-use Rattle.sql_reader.specs.Form.{fits, is_gap}
+use Rattle.sql_reader.specs.Form.{is_empty, Sound}
+use Rattle.sql_reader.proofs.Form.{true_false}
 use Rattle.sql_reader.specs.Tokens.{is_quote, text_step, text_scan, is_live, is_behind, is_text, begins_text, letters, is_blank, is_plain, is_letter, is_digit, is_word_byte, lower, is_name, value, greatest, is_digits, is_number, is_word, begins_word, byte_of, is_byte, is_comment, begins_comment, whole, begins, is_signed, begins_signed}
 use Rattle.sql_reader.specs.Places.{lexicon}
 

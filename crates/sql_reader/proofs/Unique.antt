@@ -1,5 +1,5 @@
 -- A text has one plan.
-use Rattle.std.proofs.Common.{◌≡◌, ℕ, zero, suc, ◌<◌, List, [], ◌∷◌, ◌++◌, map, length, get_or, arith, refl, sym, ◌∙◌, ap, subst}
+use Rattle.std.proofs.Common.{◌≡◌, ℕ, zero, suc, ◌<◌, List, [], ◌∷◌, ◌++◌, length, get_or, arith, refl, sym, ◌∙◌, ap}
 use Rattle.ids_base.specs.declared.plan.Term.{Term}
 use Rattle.ids_base.specs.declared.plan.DataStatement.{DataStatement}
 use Rattle.ids_base.specs.declared.plan.DataStatement.TheVariants.{CreateTable, Insert, Select}
@@ -11,7 +11,7 @@ use Rattle.ids_base.specs.declared.shape.Column.{Column}
 use Rattle.ids_base.specs.declared.value.Value.{Value}
 use Rattle.ids_base.specs.declared.value.Value.TheVariants.{Int, Chars}
 use Rattle.sql_reader.specs.Lines.{texts_of, sessions_in, statements_in, text_in}
-use Rattle.sql_reader.specs.Plans.{Item, says_name, says_word, says_comparison, value_item, kind_items, column_items, shape_items, row_items, term_items, all_term_items, condition_items, statement_items, items_of_plan, items_of_tokens, IsPlanOf, Each, IsScriptOf, plans_in}
+use Rattle.sql_reader.specs.Plans.{Item, says_name, value_item, kind_items, shape_items, row_items, all_term_items, condition_items, statement_items, items_of_plan, items_of_tokens, IsPlanOf, Each, IsScriptOf, plans_in}
 use Rattle.sql_reader.proofs.Table.{only_reading}
 
 value_same : (a b : Value) → value_item a ≡ value_item b → a ≡ b

@@ -1,5 +1,5 @@
 -- The statements of a checked script, by their places.
-use Rattle.std.proofs.Common.{◌≡◌, ℕ, zero, suc, ◌+◌, ◌-◌, ◌≤◌, ◌<◌, List, [], ◌∷◌, length, map, refl, sym, ◌∙◌, ap, subst, arith, take, drop, get_or}
+use Rattle.std.proofs.Common.{◌≡◌, ℕ, zero, suc, ◌<◌, List, [], ◌∷◌, length, refl, sym, ◌∙◌, ap, subst, arith, get_or}
 use Rattle.sql_reader.specs.declared.script.Span.{Span}
 use Rattle.sql_reader.specs.Lines.{sessions, sessions_in, statements_in, text_in}
 use Rattle.sql_reader.specs.Checks.{text_at, texts_at, IsSpan, AreSpans}

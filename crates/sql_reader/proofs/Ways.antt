@@ -1,16 +1,14 @@
 -- Ways through a statement, token by token.
-use Rattle.std.proofs.Common.{◌≡◌, ℕ, ◌+◌, ◌-◌, Bool, true, false, List, [], ◌∷◌, ◌++◌, ◌⊎◌, inl, inr, cond, map, length, refl, sym, ◌∙◌, ap, subst, append_assoc, take, drop, Result, Ok, Err, IfOk}
+use Rattle.std.proofs.Common.{◌≡◌, ℕ, ◌+◌, ◌-◌, Bool, true, List, [], ◌∷◌, ◌++◌, ◌⊎◌, inl, inr, cond, length, refl, sym, ◌∙◌, ap, subst, append_assoc, take, drop, Result, Ok, Err, IfOk}
 use Rattle.std.proofs.lemmas.List.{append-nil}
 use Rattle.std.proofs.Math.Seq.{drop-drop}
-use Rattle.sql_reader.specs.declared.token.Edge.{Edge}
 use Rattle.sql_reader.specs.declared.token.Edge.TheVariants.{Free}
 use Rattle.sql_reader.specs.declared.token.Kind.{Kind}
-use Rattle.sql_reader.specs.declared.token.Kind.TheVariants.{Word, Number, Signed, Text, Sign}
+use Rattle.sql_reader.specs.declared.token.Kind.TheVariants.{Word, Signed, Text, Sign}
 use Rattle.sql_reader.specs.declared.token.Keyword.{Keyword}
 use Rattle.sql_reader.specs.declared.token.Keyword.TheVariants as keyword
 use Rattle.sql_reader.specs.declared.token.Sign.TheVariants as sign
 use Rattle.ids_base.specs.declared.plan.Plan.{Plan}
-use Rattle.ids_base.specs.declared.plan.Plan.TheVariants.{Data, Begin, Commit}
 use Rattle.ids_base.specs.declared.plan.Term.{Term}
 use Rattle.ids_base.specs.declared.plan.DataStatement.{DataStatement}
 use Rattle.ids_base.specs.declared.plan.DataStatement.TheVariants.{CreateTable, Insert, Select}
@@ -21,13 +19,13 @@ use Rattle.sql_reader.specs.declared.place.Place.TheVariants as place
 use Rattle.sql_reader.specs.declared.reader.Reader.{Reader}
 use Rattle.sql_reader.specs.Form.{InRow, Runs, From, Reads, kinds}
 use Rattle.sql_reader.specs.Tokens.{edge}
-use Rattle.sql_reader.specs.Places.{row, ends, lexicon}
+use Rattle.sql_reader.specs.Places.{row, lexicon}
 use Rattle.sql_reader.specs.Grammar.{IsStatementText}
-use Rattle.sql_reader.specs.Plans.{Item, says_word, says_all, says_name, word_items, token_items, items_of_tokens, column_items, shape_items, value_item, row_items, condition_items, statement_items, items_of_plan, IsPlanOf}
+use Rattle.sql_reader.specs.Plans.{Item, says_word, says_all, says_name, token_items, items_of_tokens, column_items, shape_items, value_item, row_items, condition_items, statement_items, items_of_plan, IsPlanOf}
 use Rattle.sql_reader.specs.Reading.{IsOn, LeftReads, Went, Next, IsOnly, IsValue, IsKind, IsListEnd, IsSilent, IsBehind, is_word_kind, all_words}
 use Rattle.sql_reader.proofs.Stands.{all_of}
 use Rattle.sql_reader.proofs.Table.{runs_statement, derives_statement}
-use Rattle.sql_reader.proofs.Form.{true_false, reads_of}
+use Rattle.sql_reader.proofs.Form.{reads_of}
 use Rattle.sql_reader.proofs.Tokens.{left, right}
 
 pub starts_on : (bytes : List ℕ) → IsStatementText bytes → From lexicon place.StatementStart Free bytes

@@ -1,5 +1,5 @@
 -- A language of tokens with blanks between them.
-use Rattle.std.specs.Prelude.{◌≡◌, ℕ, Bool, true, false, cond, not, ◌&&◌, ◌||◌, List, [], ◌∷◌, ◌++◌, ◌⊎◌, length, ◌<◌}
+use Rattle.std.specs.Prelude.{◌≡◌, ℕ, Bool, true, false, not, List, [], ◌∷◌, ◌++◌, ◌⊎◌}
 use Rattle.std.specs.List.{list_all}
 use Rattle.sql_reader.specs.declared.token.Edge.{Edge}
 use Rattle.sql_reader.specs.declared.token.Edge.TheVariants.{Free, Wordy, Closed}

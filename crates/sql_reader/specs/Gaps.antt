@@ -1,5 +1,5 @@
 -- Blanks between tokens.
-use Rattle.std.specs.Prelude.{◌≡◌, ℕ, zero, suc, ◌≤◌, ◌<◌, Bool, true, false, List, [], ◌∷◌, length, take, get_or}
+use Rattle.std.specs.Prelude.{◌≡◌, ℕ, zero, suc, ◌≤◌, ◌<◌, true, false, List, [], ◌∷◌, length, take, get_or}
 use Rattle.sql_reader.specs.declared.token.Edge.{Edge}
 use Rattle.sql_reader.specs.declared.token.Edge.TheVariants.{Free}
 use Rattle.sql_reader.specs.Form.{is_gap}

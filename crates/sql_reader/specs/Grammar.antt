@@ -1,12 +1,12 @@
 -- The grammar of a line.
-use Rattle.std.specs.Prelude.{◌≡◌, ℕ, List, [], ◌∷◌, ◌++◌, length, take, ◌≤◌}
+use Rattle.std.specs.Prelude.{ℕ, List, ◌++◌, length, take, ◌≤◌}
 use Rattle.sql_reader.specs.declared.token.Edge.TheVariants.{Free}
 use Rattle.sql_reader.specs.declared.token.Keyword.TheVariants as keyword
 use Rattle.sql_reader.specs.declared.token.Kind.{Kind}
 use Rattle.sql_reader.specs.declared.token.Kind.TheVariants.{Word, Name, Number, Signed, Text, Sign, Comment}
 use Rattle.sql_reader.specs.declared.token.Sign.TheVariants as sign
 use Rattle.sql_reader.specs.Form.{Spelled, Reads, kinds}
-use Rattle.sql_reader.specs.Ebnf.{Grammar, nothing, token, both, either, many, Derives, optional, separated}
+use Rattle.sql_reader.specs.Ebnf.{Grammar, token, both, either, many, Derives, optional, separated}
 use Rattle.sql_reader.specs.Places.{lexicon}
 
 infixr 20 ◌then◌

@@ -1,5 +1,5 @@
 -- What the readers of a line find.
-use Rattle.std.specs.Prelude.{◌≡◌, ℕ, ◌+◌, Bool, true, false, List, [], ◌∷◌, ◌++◌, length, take, ◌≤◌, ◌<◌, IfSome, IfNone, Option}
+use Rattle.std.specs.Prelude.{◌≡◌, ℕ, ◌+◌, Bool, true, false, List, ◌++◌, length, take, ◌≤◌, ◌<◌, IfSome, IfNone, Option}
 use Rattle.sql_reader.specs.declared.token.Edge.{Edge}
 use Rattle.sql_reader.specs.declared.token.Edge.TheVariants.{Free}
 use Rattle.sql_reader.specs.declared.token.Kind.{Kind}

@@ -1,7 +1,7 @@
 -- A script as its lines.
-use Rattle.std.specs.Prelude.{◌≡◌, ℕ, ◌+◌, ◌-◌, ◌≤◌, Bool, true, false, cond, not, ◌==◌, nat_le, if◌then◌else◌, List, [], ◌∷◌, ◌++◌, length, take, drop, get_or, map, filter}
+use Rattle.std.specs.Prelude.{◌≡◌, ℕ, ◌+◌, Bool, false, cond, not, ◌==◌, nat_le, if◌then◌else◌, List, [], ◌∷◌, ◌++◌, length, drop, get_or, filter}
 use Rattle.sql_reader.specs.Tokens.{is_blank}
-use Rattle.sql_reader.specs.Grammar.{IsLine, IsStatementText}
+use Rattle.sql_reader.specs.Grammar.{IsLine}
 
 -- a byte before the first line
 abbrev pub before_first : ℕ → List (List ℕ) → List (List ℕ)

@@ -33,3 +33,15 @@ pub fn a_script_has_its_plans_in_place()
     ensures statements { (bytes : List ℕ) (script : List (List (List Plan))) (phase session : ℕ) → IsScriptOf bytes script → length (plans_in script phase session) ≡ length (statements_in (texts_of bytes) phase session) }
     ensures plans { (bytes : List ℕ) (script : List (List (List Plan))) (phase session statement : ℕ) (default : Plan) → IsScriptOf bytes script → statement < length (statements_in (texts_of bytes) phase session) → IsPlanOf (text_in (texts_of bytes) phase session statement) (get_or (plans_in script phase session) statement default) }
 {}
+
+#[cfg(test)]
+mod tests {
+    #[test]
+    fn hold() {
+        super::every_statement_has_a_plan();
+        super::a_statement_has_one_plan();
+        super::every_script_has_plans();
+        super::a_script_has_one_reading();
+        super::a_script_has_its_plans_in_place();
+    }
+}

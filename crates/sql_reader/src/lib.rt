@@ -6,6 +6,7 @@
 
 mod byte;
 mod convert;
+pub mod laws;
 pub mod line;
 pub mod place;
 pub mod plan;
@@ -13,4 +14,3 @@ pub mod reach;
 mod reader;
 pub mod script;
 pub mod token;
-pub mod laws;

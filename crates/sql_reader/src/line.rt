@@ -108,3 +108,81 @@ pub fn judge_line(bytes: &[u8]) -> Verdict
 {
     judge(bytes)
 }
+
+#[cfg(test)]
+mod tests {
+    use super::{Verdict, judge_line};
+    use std::alloc::Global;
+    use std::test::Fail;
+
+    // INSERT of a text of so many bytes.
+    fn insert_of(alloc: Global, count: usize) -> Result<Verdict, Fail> {
+        let mut line = Vec::new(alloc);
+        line.extend_from_slice(b"INSERT INTO t VALUES ('")?;
+        for _ in 0..count {
+            line.push(b'a')?;
+        }
+        line.extend_from_slice(b"')")?;
+        Ok(judge_line(line.as_slice()))
+    }
+
+    #[test]
+    fn lines(rt: HostRuntime) {
+        for line in [
+            b"".as_slice(),
+            b"  \t\r".as_slice(),
+            b"--".as_slice(),
+            b" \t-- so; it's a comment".as_slice(),
+            b"BEGIN;".as_slice(),
+            b"\tbegin work ; \r".as_slice(),
+            b"Commit".as_slice(),
+            b"CREATE TABLE t (k INTEGER, c CHAR(4))".as_slice(),
+            b"create table t(k Integer primary key,c char ( 70000 ) )".as_slice(),
+            b"CREATE TABLE abcdefghijklmnopqr (a INTEGER)".as_slice(),
+            b"CREATE TABLE from (where INTEGER)".as_slice(),
+            b"INSERT INTO t VALUES(2147483647, -2147483647,007)".as_slice(),
+            b"INSERT INTO t VALUES ('it''s',\"a'b\",'')".as_slice(),
+            b"SELECT*FROM t WHERE k=-7".as_slice(),
+            b"SELECT * FROM t WHERE k = 'ab'".as_slice(),
+        ] {
+            assert!(rt; judge_line(line) == Verdict::Line);
+        }
+    }
+
+    #[test]
+    fn no_lines(rt: HostRuntime) {
+        for (line, longest) in [
+            (b";".as_slice(), 0),
+            (b"BEGIN;;".as_slice(), 6),
+            (b"BEGIN WORK!".as_slice(), 10),
+            (b"- -".as_slice(), 1),
+            (b"-- \x80".as_slice(), 3),
+            (b"UPDATE t SET c = 'x'".as_slice(), 0),
+            (b"INSERTINTO t VALUES (1)".as_slice(), 6),
+            (b"INSERT INTO t VALUES (1, 'ab".as_slice(), 28),
+            (b"INSERT INTO t VALUES (2147483648, 1)".as_slice(), 31),
+            (b"INSERT INTO t VALUES (- 5)".as_slice(), 23),
+            (b"INSERT INTO t VALUES (12a)".as_slice(), 24),
+            (b"INSERT INTO t VALUES ('a\tb')".as_slice(), 24),
+            (
+                b"CREATE TABLE abcdefghijklmnopqrs (a INTEGER)".as_slice(),
+                31,
+            ),
+            (
+                b"CREATE TABLE t (k INTEGER, c CHAR(4) PRIMARY KEY)".as_slice(),
+                37,
+            ),
+            (b"SELECT * FROM t WHERE k = 7 AND c = 1".as_slice(), 28),
+            (b"BEGIN\nCOMMIT".as_slice(), 5),
+        ] {
+            assert!(rt; judge_line(line) == Verdict::Bad(longest));
+        }
+    }
+
+    #[test]
+    fn long_texts(rt: HostRuntime) -> Result<(), Fail> {
+        assert!(rt; insert_of(rt.alloc(), 800)? == Verdict::Line);
+        assert!(rt; insert_of(rt.alloc(), 801)? == Verdict::Bad(823));
+        Ok(())
+    }
+}

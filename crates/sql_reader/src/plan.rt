@@ -183,3 +183,106 @@ pub fn plan_of(alloc: Global, statement: &CheckedText) -> Result<Plan, Memory>
 {
     read_plan(alloc, statement.bytes())
 }
+
+#[cfg(test)]
+mod tests {
+    use super::plan_of;
+    use crate::script::check_script;
+    use ids_base::plan::{Comparison, DataStatement, Plan};
+    use ids_base::shape::Kind;
+    use ids_base::value::Value;
+    use std::alloc::Global;
+    use std::test::Fail;
+
+    // The plan of a script's first statement.
+    fn plan(alloc: Global, script: &[u8]) -> Result<Plan, Fail> {
+        let checked = check_script(alloc, script.to_vec(alloc)?)?;
+        if checked.statements(0, 0) == 0 {
+            return Err(Fail::new("no statement"));
+        }
+        let text = checked.text_at(alloc, 0, 0, 0)?;
+        drop(plan_of(alloc, &text)?);
+        Ok(checked.plan_at(alloc, 0, 0, 0)?)
+    }
+
+    #[test]
+    fn ends(rt: HostRuntime) -> Result<(), Fail> {
+        assert!(rt; matches!(plan(rt.alloc(), b"\n Begin work;")?, Plan::Begin));
+        assert!(rt; matches!(plan(rt.alloc(), b"COMMIT")?, Plan::Commit));
+        Ok(())
+    }
+
+    #[test]
+    fn create(rt: HostRuntime) -> Result<(), Fail> {
+        let plan = plan(
+            rt.alloc(),
+            b"CREATE TABLE T1 (K INTEGER PRIMARY KEY, c CHAR(4), d CHAR(70000))",
+        )?;
+        let Plan::Data(DataStatement::CreateTable { table, shape }) = plan else {
+            return Err(Fail::new("no CREATE TABLE"));
+        };
+        assert!(rt; table.bytes() == b"t1".as_slice());
+        match shape.as_slice() {
+            [k, c, d] => {
+                assert!(rt; k.name.bytes() == b"k".as_slice() && k.kind == Kind::Integer);
+                assert!(rt; c.name.bytes() == b"c".as_slice() && c.kind == Kind::Char(4));
+                assert!(rt; d.kind == Kind::Char(0));
+                Ok(())
+            }
+            _ => Err(Fail::new("not three columns")),
+        }
+    }
+
+    // Whether a value is the number.
+    fn is_number(value: &Value, number: i32) -> bool {
+        match value {
+            Value::Int(n) => *n == number,
+            Value::Chars(_) => false,
+        }
+    }
+
+    // Whether a value is the text.
+    fn is_text(value: &Value, text: &[u8]) -> bool {
+        match value {
+            Value::Int(_) => false,
+            Value::Chars(chars) => chars.bytes() == text,
+        }
+    }
+
+    #[test]
+    fn insert(rt: HostRuntime) -> Result<(), Fail> {
+        let plan = plan(
+            rt.alloc(),
+            b"INSERT INTO t VALUES (7, 'ab', -2147483647, 'it''s  ', \"a'\"\"\")",
+        )?;
+        let Plan::Data(DataStatement::Insert { table, row }) = plan else {
+            return Err(Fail::new("no INSERT"));
+        };
+        assert!(rt; table.bytes() == b"t".as_slice());
+        match row.as_slice() {
+            [a, b, c, d, e] => {
+                assert!(rt; is_number(a, 7) && is_text(b, b"ab") && is_number(c, -2147483647));
+                assert!(rt; is_text(d, b"it's") && is_text(e, b"a'\""));
+                Ok(())
+            }
+            _ => Err(Fail::new("not five values")),
+        }
+    }
+
+    #[test]
+    fn select(rt: HostRuntime) -> Result<(), Fail> {
+        let plan = plan(rt.alloc(), b"SELECT * FROM t WHERE K = 7")?;
+        let Plan::Data(DataStatement::Select { table, condition }) = plan else {
+            return Err(Fail::new("no SELECT"));
+        };
+        assert!(rt; table.bytes() == b"t".as_slice());
+        match condition.as_slice() {
+            [term] => {
+                assert!(rt; term.column.bytes() == b"k".as_slice());
+                assert!(rt; term.comparison == Comparison::Equal && is_number(&term.value, 7));
+                Ok(())
+            }
+            _ => Err(Fail::new("not one term")),
+        }
+    }
+}

@@ -245,3 +245,52 @@ impl Checked {
         read_plan(alloc, self.slice_at(phase, session, statement))
     }
 }
+
+#[cfg(test)]
+mod tests {
+    use super::{ScriptFault, check_script};
+    use ids_base::status::Why;
+    use std::alloc::Global;
+    use std::test::Fail;
+
+    // The place of the first bad line, if there is one.
+    fn bad_at(alloc: Global, script: &[u8]) -> Result<Option<u64>, Fail> {
+        match check_script(alloc, script.to_vec(alloc)?) {
+            Ok(_) => Ok(None),
+            Err(ScriptFault::Bad { byte, .. }) => Ok(Some(byte)),
+            Err(ScriptFault::Memory) => Err(Fail::new("out of memory")),
+        }
+    }
+
+    #[test]
+    fn places(rt: HostRuntime) -> Result<(), Fail> {
+        for (script, byte) in [
+            (b"".as_slice(), None),
+            (b"\n\n-- nothing\n".as_slice(), None),
+            (b"BEGIN\nCOMMIT".as_slice(), None),
+            (b"BEGIN\n;\nCOMMIT\n;".as_slice(), Some(6)),
+            (b"BEGIN\nCOMMIT\nPHASE".as_slice(), Some(13)),
+            (b"BEGIN\r\nCOMMIT\r\n".as_slice(), None),
+            (
+                b"CREATE TABLE t (k INTEGER, c CHAR(4))\nBEGIN WORK\nINSERT INTO t VALUES (7, 'ab')\nSELECT * FROM t WHERE k = 7\nCOMMIT WORK\nUPDATE t SET c = 'x'\n".as_slice(),
+                Some(120),
+            ),
+        ] {
+            assert!(rt; bad_at(rt.alloc(), script)? == byte);
+        }
+        Ok(())
+    }
+
+    #[test]
+    fn walk(rt: HostRuntime) -> Result<(), Fail> {
+        let alloc = rt.alloc();
+        let empty = check_script(alloc, b"\n-- nothing".to_vec(alloc)?)?;
+        assert!(rt; empty.phases() == 1 && empty.sessions(0) == 0);
+        let script = check_script(alloc, b"BEGIN\n\n commit;\n".to_vec(alloc)?)?;
+        assert!(rt; script.sessions(0) == 1 && script.sessions(1) == 0);
+        assert!(rt; script.statements(0, 0) == 2);
+        let text = script.text_at(alloc, 0, 0, 1)?;
+        assert!(rt; text.bytes() == b" commit;".as_slice());
+        Ok(())
+    }
+}

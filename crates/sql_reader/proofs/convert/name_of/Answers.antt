@@ -1,4 +1,4 @@
-use Rattle.std.proofs.Common.{arith, ◌∙◌, ◌≡◌, length, length-set}
+use Rattle.std.proofs.Common.{arith, ◌∙◌, length-set}
 use Rattle.sql_reader.proofs.Form.{true_false}
 use Rattle.sql_reader.proofs.Meanings.{name_more, name_read, name_short}
 use Rattle.sql_reader.proofs.convert.name_of.Goals as goal

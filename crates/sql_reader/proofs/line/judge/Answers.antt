@@ -1,4 +1,4 @@
-use Rattle.std.proofs.Common.{sym, ◌∙◌, arith, subst, length-drop, ◌+◌, ◌≤◌, ◌<◌, length, take, drop}
+use Rattle.std.proofs.Common.{sym, ◌∙◌, arith, subst, length-drop, ◌+◌, ◌<◌, length, take, drop}
 use Rattle.std.proofs.Common.{◌≡◌, ◌-◌, ℕ, List}
 use Rattle.std.proofs.lemmas.List.{length-take-le}
 use Rattle.sql_reader.proofs.Stands.{Stands, blank_step, token_by, dead_by, good_end, bad_end}

@@ -1,6 +1,6 @@
-use Rattle.std.proofs.Common.{sym, ◌∙◌, arith}
+use Rattle.std.proofs.Common.{sym, ◌∙◌}
 use Rattle.sql_reader.proofs.line.longer.Goals as goal
-use Rattle.sql_reader.proofs.Rows.{keeps, broken_by, taken_by, skips, ties}
+use Rattle.sql_reader.proofs.Rows.{keeps, broken_by, taken_by}
 
 pub returns-then-at-others : goal.returns-then-at-others
 returns-then-at-others c = keeps _ _ _ _ _ _ _ _ _ c.requires c.reach-at.ensures c.if-at-others.true

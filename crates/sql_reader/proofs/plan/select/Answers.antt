@@ -1,4 +1,3 @@
-use Rattle.std.proofs.Common.{ap, ◌++◌, ◌∙◌, []}
 use Rattle.sql_reader.proofs.Ways.{went_on, behind_select, pushed_one}
 use Rattle.sql_reader.proofs.plan.select.Goals as goal
 

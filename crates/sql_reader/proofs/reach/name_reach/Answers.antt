@@ -1,4 +1,4 @@
-use Rattle.std.proofs.Common.{sym, ◌∙◌, arith}
+use Rattle.std.proofs.Common.{arith}
 use Rattle.sql_reader.proofs.Steps.{name_reached}
 use Rattle.sql_reader.proofs.reach.name_reach.Goals as goal
 

@@ -1,5 +1,5 @@
 use Rattle.std.proofs.Common.{get_or, sym, ◌∙◌, ap, arith, ◌+◌, ◌*◌, ◌-◌}
-use Rattle.sql_reader.proofs.Steps.{number_reached, number_too_great, number_goes, number_value, number_not_digit}
+use Rattle.sql_reader.proofs.Steps.{number_reached, number_too_great, number_goes, number_value}
 use Rattle.sql_reader.proofs.reach.number_reach.Goals as goal
 
 pub returns-then-more-gt2147483647 : goal.returns-then-more-gt2147483647

@@ -1,4 +1,4 @@
-use Rattle.std.proofs.Common.{sym, ◌∙◌, ap, subst, arith, ◌≡◌, true, false, get_or, ◌+◌}
+use Rattle.std.proofs.Common.{sym, ◌∙◌, ap, subst, arith, get_or, ◌+◌}
 use Rattle.sql_reader.specs.Tokens.{is_live}
 use Rattle.sql_reader.proofs.Steps.{Scanned, text_more, text_reached}
 use Rattle.sql_reader.proofs.reach.text_reach.Goals as goal

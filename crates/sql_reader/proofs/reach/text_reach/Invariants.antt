@@ -1,4 +1,4 @@
-use Rattle.std.proofs.Common.{length, ◌-◌, ◌≡◌, ◌<◌, ◌≤◌, true}
+use Rattle.std.proofs.Common.{length, ◌-◌, ◌≡◌, ◌≤◌, true}
 use Rattle.sql_reader.specs.Tokens.{is_quote, is_live}
 use Rattle.sql_reader.proofs.Steps.{Scanned}
 use Rattle.sql_reader.proofs.reach.text_reach.Given as goal

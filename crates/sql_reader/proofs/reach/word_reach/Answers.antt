@@ -1,4 +1,4 @@
-use Rattle.std.proofs.Common.{sym, ◌∙◌, arith, ap}
+use Rattle.std.proofs.Common.{sym, ◌∙◌, arith}
 use Rattle.sql_reader.proofs.Steps.{word_reached, word_step, same_is, other_is}
 use Rattle.sql_reader.proofs.reach.word_reach.Goals as goal
 use Rattle.sql_reader.proofs.reach.word_reach.Goals.{then-loop-at-test+then-at-letters+else-small-letters, then-loop-at-test+else-at-letters, else-loop-at-test}

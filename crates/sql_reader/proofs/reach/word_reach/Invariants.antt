@@ -1,6 +1,5 @@
-use Rattle.std.proofs.Common.{length, ◌-◌, ◌≡◌, ◌<◌, ◌≤◌, ◌+◌, ℕ, ◌*◌, take, true}
-use Rattle.sql_reader.specs.Tokens.{letters, begins_word, begins, value}
-use Rattle.sql_reader.specs.declared.token.Kind.TheVariants.{Name, Number, Comment}
+use Rattle.std.proofs.Common.{length, ◌-◌, ◌≡◌, ◌≤◌, take, true}
+use Rattle.sql_reader.specs.Tokens.{letters, begins_word}
 use Rattle.sql_reader.proofs.reach.word_reach.Given as goal
 
 abbrev pub decreases-loop-at : goal.decreases-loop-at

@@ -1,5 +1,5 @@
-use Rattle.std.proofs.Common.{arith, refl, sym, ◌∙◌, ap, subst, ◌+◌, length, List, ℕ}
-use Rattle.sql_reader.proofs.Lines.{Kept, kept_bad, kept_silent, kept_statement, kept_lines, kept_texts, first_by}
+use Rattle.std.proofs.Common.{refl, sym, ◌∙◌, ap, subst, ◌+◌, length}
+use Rattle.sql_reader.proofs.Lines.{Kept, kept_bad, kept_silent, kept_statement, first_by}
 use Rattle.sql_reader.proofs.script.spans_of.Goals as goal
 use Rattle.sql_reader.proofs.script.spans_of.Goals.{then-holds_statement+in_ok-push, else-holds_statement}
 

@@ -1,4 +1,4 @@
-use Rattle.std.proofs.Common.{arith, ◌≡◌, ◌∙◌, sym, ap, subst}
+use Rattle.std.proofs.Common.{arith, ◌∙◌, sym, ap, subst}
 use Rattle.sql_reader.specs.Grammar.{IsStatementText}
 use Rattle.sql_reader.specs.Checks.{text_at}
 use Rattle.sql_reader.proofs.Walks.{span_by}
