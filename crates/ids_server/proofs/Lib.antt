@@ -1,0 +1,4 @@
+pub mod Carrying
+pub mod Texts
+pub mod Steps
+pub mod Runs

@@ -1,0 +1,6 @@
+pub mod Words
+pub mod Printing
+pub mod Lines
+pub mod Running
+pub mod Runners
+pub mod Serving
