@@ -1,5 +1,5 @@
 -- A table of stock, filled in one transaction and read by key.
-CREATE TABLE stock (item INTEGER PRIMARY KEY, name CHAR(12), pieces INTEGER)
+CREATE TABLE stock (item INTEGER PRIMARY KEY, name CHAR(16), pieces INTEGER)
 BEGIN WORK
 INSERT INTO stock VALUES (1, 'bolt', 400)
 INSERT INTO stock VALUES (2, 'nut', 380)

@@ -1,2 +1,12 @@
 pub mod Rises
 pub mod Fronts
+pub mod Images
+pub mod Overlays
+pub mod Extensions
+pub mod Vectors
+pub mod States
+pub mod Moments
+pub mod Kept
+pub mod Disks
+pub mod Runs
+pub mod Leaving

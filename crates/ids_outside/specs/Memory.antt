@@ -21,14 +21,6 @@ pub record SinkState : Type 0 where
   pub calls : ℕ
   pub faults : ℕ
 
--- a disk in memory: the pages of its chunks, the same, and its moment
-pub record DiskState : Type 0 where
-  pub pages : List ℕ
-  pub listed : List ℕ
-  pub calls : ℕ
-  pub faults : ℕ
-  pub moment : ℕ
-
 -- a disk of files: the pages of its chunks, its faults, and its moment
 pub record FilesState : Type 0 where
   pub pages : List ℕ

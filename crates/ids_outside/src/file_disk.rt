@@ -1,15 +1,51 @@
 //! A disk whose chunks are files.
-ghost use Rattle.std.specs.Prelude.{◌≡◌, slice_index};
+ghost use Rattle.std.specs.Prelude.{◌≡◌, [], ℕ, slice_index};
+ghost use Rattle.ids_outside.specs.Counts.{HasCause};
 
-use crate::Disk;
-use std::fs;
+use crate::{Disk, DiskFault};
+use std::fs::{File, OpenFile, OpenOptions};
 use std::marker::Model;
-use std::rt::Files;
+use std::os::unix::fs::FileExt;
+use std::{fs, io};
 
-/// A disk whose chunks are the files `root.chk` and `data1.chk` to `data8.chk` of the current folder.
+const CHUNKS: usize = 9;
+
+const PAGE: u64 = 2048;
+
+const NAMES: [&str; CHUNKS] = [
+    "root.chk",
+    "data1.chk",
+    "data2.chk",
+    "data3.chk",
+    "data4.chk",
+    "data5.chk",
+    "data6.chk",
+    "data7.chk",
+    "data8.chk",
+];
+
+// What a sync has to do for a file.
+#[derive(Clone, Copy, Debug, Drop, PartialEq, Eq)]
+enum Unsynced {
+    Nothing,
+    Bytes,
+    Length,
+}
+
+// A chunk: its file where it is open, and what is not synced yet.
+#[derive(Drop)]
+struct Chunk {
+    file: Option<File>,
+    unsynced: Unsynced,
+}
+
+/// A disk whose chunks are the files `root.chk` and `data1.chk` to `data8.chk` of the current folder. It tells nothing of
+/// their bytes.
 #[derive(Drop)]
 pub struct FileDisk {
-    pages: [u32; 9],
+    rt: HostRuntime,
+    chunks: [Chunk; CHUNKS],
+    pages: [u32; CHUNKS],
     moment: u64,
     faults: u64,
 }
@@ -22,41 +58,147 @@ impl Model for FileDisk {
     ghost view = { λ d. record { pages = d.pages; faults = d.faults; moment = d.moment } };
 }
 
-const PAGE: u64 = 2048;
-
-const NAMES: [&str; 9] = [
-    "root.chk",
-    "data1.chk",
-    "data2.chk",
-    "data3.chk",
-    "data4.chk",
-    "data5.chk",
-    "data6.chk",
-    "data7.chk",
-    "data8.chk",
-];
-
 // The whole pages of a file, 0 of one that is not there.
-fn pages_of<R: Files>(rt: &R, name: &str) -> u32 {
+fn pages_of(rt: &HostRuntime, name: &str) -> u32 {
     match fs::metadata(rt, name) {
         Ok(data) => u32::try_from(data.len() / PAGE).unwrap_or(u32::MAX),
         Err(_) => 0,
     }
 }
 
+// Opens a file that is there, to read and write, or else to read alone.
+fn open(rt: &HostRuntime, name: &str) -> Option<File> {
+    let both = OpenOptions::new().read(true).write(true).open(rt, name);
+    both.or_else(|_| File::open(rt, name)).ok()
+}
+
+fn open_chunk(rt: &HostRuntime, name: &str) -> Chunk {
+    // What another process made of it may not be synced.
+    Chunk {
+        file: open(rt, name),
+        unsynced: Unsynced::Length,
+    }
+}
+
+// Counts a fault where there is one.
+fn counted(faults: &mut u64, done: io::Result<()>) -> Result<(), DiskFault>
+    ensures { HasCause faults.old faults.new result }
+{
+    match done {
+        Ok(()) => Ok(()),
+        Err(_) => {
+            *faults = faults.saturating_add(1);
+            Err(DiskFault)
+        }
+    }
+}
+
+fn no_file() -> io::Result<()> {
+    Err(io::Error::from(io::ErrorKind::NotFound))
+}
+
+fn read_file(file: &Option<File>, offset: u64, into: &mut [u8]) -> io::Result<()> {
+    match file {
+        Some(file) => file.read_exact_at(into, offset),
+        None => no_file(),
+    }
+}
+
+fn write_file(chunk: &mut Chunk, offset: u64, bytes: &[u8]) -> io::Result<()> {
+    if chunk.unsynced == Unsynced::Nothing {
+        chunk.unsynced = Unsynced::Bytes;
+    }
+    match &chunk.file {
+        Some(file) => file.write_all_at(bytes, offset),
+        None => no_file(),
+    }
+}
+
+// Makes a file longer, and makes it first where it is not there. What stood behind its whole pages goes, so that the new
+// pages are zero.
+fn lengthen(rt: &HostRuntime, chunk: &mut Chunk, name: &str, old: u32, new: u32) -> io::Result<()> {
+    chunk.unsynced = Unsynced::Length;
+    if chunk.file.is_none() {
+        let made = OpenOptions::new()
+            .read(true)
+            .write(true)
+            .create(true)
+            .open(rt, name)?;
+        chunk.file = Some(made);
+    }
+    match &chunk.file {
+        Some(file) => {
+            file.set_len(PAGE * old as u64)?;
+            file.set_len(PAGE * new as u64)
+        }
+        None => no_file(),
+    }
+}
+
+// Brings a file to the medium, and answers whether its folder is to follow.
+fn sync_file(chunk: &Chunk) -> io::Result<bool> {
+    match (&chunk.file, chunk.unsynced) {
+        (None, _) | (_, Unsynced::Nothing) => Ok(false),
+        (Some(file), Unsynced::Bytes) => {
+            file.sync_data()?;
+            Ok(false)
+        }
+        (Some(file), Unsynced::Length) => {
+            file.sync_all()?;
+            Ok(true)
+        }
+    }
+}
+
+// Brings each file to the medium, and the folder where a file was made or grew.
+fn sync_files(rt: &HostRuntime, chunks: &mut [Chunk]) -> io::Result<()> {
+    let mut folder = false;
+    for chunk in chunks.iter() {
+        if sync_file(chunk)? {
+            folder = true;
+        }
+    }
+    if folder {
+        File::open(rt, ".")?.sync_all()?;
+    }
+    for chunk in chunks.iter_mut() {
+        chunk.unsynced = Unsynced::Nothing;
+    }
+    Ok(())
+}
+
 impl FileDisk {
     /// The disk of the current folder. A file that is not there has 0 pages, and one whose length is no multiple of a page
     /// counts by its whole pages.
-    pub fn new<R: Files>(rt: &R) -> FileDisk
+    pub fn new(rt: &HostRuntime) -> FileDisk
         ensures moment { result.moment ≡ 0 }
         ensures faults { result.faults ≡ 0 }
     {
-        let mut pages = [0; 9];
-        for (i, name) in NAMES.iter().enumerate() {
-            pages[i] = pages_of(rt, name);
-        }
+        let [a, b, c, d, e, f, g, h, i] = NAMES;
         FileDisk {
-            pages,
+            rt: *rt,
+            chunks: [
+                open_chunk(rt, a),
+                open_chunk(rt, b),
+                open_chunk(rt, c),
+                open_chunk(rt, d),
+                open_chunk(rt, e),
+                open_chunk(rt, f),
+                open_chunk(rt, g),
+                open_chunk(rt, h),
+                open_chunk(rt, i),
+            ],
+            pages: [
+                pages_of(rt, a),
+                pages_of(rt, b),
+                pages_of(rt, c),
+                pages_of(rt, d),
+                pages_of(rt, e),
+                pages_of(rt, f),
+                pages_of(rt, g),
+                pages_of(rt, h),
+                pages_of(rt, i),
+            ],
             moment: 0,
             faults: 0,
         }
@@ -64,11 +206,35 @@ impl FileDisk {
 }
 
 impl Disk for FileDisk {
+    ghost use Rattle.std.specs.Prelude.{[], slice_index};
+
     ghost size = { λ d j. slice_index d.pages j };
 
     ghost now = { λ d. d.moment };
 
     ghost fault_count = { λ d. d.faults };
+
+    ghost tells = { ⊥ };
+
+    ghost image = { λ d. [] };
+
+    ghost can_leave = { λ d c. ⊥ };
+
+    ghost left_at = { λ d m c. ⊥ };
+
+    ghost counts_now = { λ d c left. left };
+
+    ghost only_now = { λ d c below left. left };
+
+    ghost no_later = { λ d m c left. absurd left };
+
+    ghost image_left = { λ d told. told };
+
+    ghost left_tells = { λ d m c left. left };
+
+    ghost left_images = { λ d m c left. absurd left };
+
+    ghost image_size = { λ d j told. absurd told };
 
     fn pages(&self, chunk: u32) -> u32 {
         self.pages.get(chunk as usize).copied().unwrap_or(0)
@@ -80,5 +246,46 @@ impl Disk for FileDisk {
 
     fn faults(&self) -> u64 {
         self.faults
+    }
+
+    fn read(&mut self, chunk: u32, offset: u64, into: &mut [u8]) -> Result<(), DiskFault> {
+        let done = if (chunk as usize) < CHUNKS {
+            read_file(&self.chunks[chunk as usize].file, offset, into)
+        } else {
+            no_file()
+        };
+        counted(&mut self.faults, done)
+    }
+
+    fn write_at(&mut self, chunk: u32, offset: u64, bytes: &[u8]) -> Result<(), DiskFault> {
+        self.moment = self.moment.saturating_add(1);
+        let done = if (chunk as usize) < CHUNKS {
+            write_file(&mut self.chunks[chunk as usize], offset, bytes)
+        } else {
+            no_file()
+        };
+        counted(&mut self.faults, done)
+    }
+
+    fn grow(&mut self, chunk: u32, pages: u32) -> Result<(), DiskFault> {
+        self.moment = self.moment.saturating_add(1);
+        let i = chunk as usize;
+        if i >= CHUNKS {
+            self.faults = self.faults.saturating_add(1);
+            return Err(DiskFault);
+        }
+        let old = self.pages[i];
+        if old < pages {
+            let done = lengthen(&self.rt, &mut self.chunks[i], NAMES[i], old, pages);
+            counted(&mut self.faults, done)?;
+            self.pages[i] = pages;
+        }
+        Ok(())
+    }
+
+    fn sync(&mut self) -> Result<(), DiskFault> {
+        self.moment = self.moment.saturating_add(1);
+        let done = sync_files(&self.rt, &mut self.chunks);
+        counted(&mut self.faults, done)
     }
 }

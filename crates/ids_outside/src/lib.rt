@@ -6,20 +6,26 @@
 //! ones, a thin edge over the standard library that tells nothing of its bytes.
 #![tactic(auto)]
 
+mod chunks;
 mod disk;
 mod failures;
 mod file_disk;
 mod gate;
+pub mod laws;
+mod leave;
 mod mem_disk;
 mod mem_sink;
 mod mem_source;
+mod record;
 mod sink;
 mod source;
 mod std_streams;
 
+pub use chunks::is_image;
 pub use disk::{Disk, DiskFault};
 pub use file_disk::FileDisk;
 pub use gate::{Gate, OpenGate, Point};
+pub use leave::Leave;
 pub use mem_disk::MemDisk;
 pub use mem_sink::MemSink;
 pub use mem_source::MemSource;

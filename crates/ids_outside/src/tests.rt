@@ -1,6 +1,7 @@
 // Each object through the bounds that the server has.
 use super::*;
 use std::alloc::{AllocError, Global};
+use std::marker::Brand;
 use std::test::Fail;
 
 // Reads the script to its end and writes it, in pieces of three bytes, past each fault.
@@ -118,4 +119,98 @@ fn faults_have_texts(rt: HostRuntime) -> Result<(), Fail> {
         "the source failed, the sink failed, the disk failed"
     );
     Ok(())
+}
+
+// Chunk 0 has 1 2 3 from place 10 on, synced, and then 7 8 from place 11 on and a 9 in chunk 1, which grows.
+fn write_some<D: Disk>(disk: &mut D) -> Result<(), DiskFault> {
+    if disk.pages(0) < 1 || disk.pages(1) < 1 {
+        return Err(DiskFault);
+    }
+    disk.write_at(0, 10, &[1, 2, 3])?;
+    disk.sync()?;
+    disk.write_at(0, 11, &[7, 8])?;
+    disk.write_at(1, 0, &[9])?;
+    disk.grow(1, 2)
+}
+
+fn seen(image: &Vec<Vec<u8>>) -> Option<([u8; 3], u8, usize, u8)> {
+    let root = image.get(0)?;
+    let data = image.get(1)?;
+    let three = [*root.get(10)?, *root.get(11)?, *root.get(12)?];
+    Some((three, *data.get(0)?, data.len(), *data.last()?))
+}
+
+#[test]
+fn a_stop_leaves_what_it_may(rt: HostRuntime) -> Result<(), Fail> {
+    let alloc = rt.alloc();
+    let mut disk = MemDisk::new(alloc, &[2, 1], Vec::new(alloc))?;
+    assert_eq!(rt; write_some(&mut disk), Ok(()));
+    assert_eq!(rt; disk.moment(), 5);
+    for (moment, leave, want) in [
+        (5, Leave::Old, ([1, 2, 3], 0, 2048, 0)),
+        (5, Leave::New, ([1, 7, 8], 9, 4096, 0)),
+        (5, Leave::Half, ([1, 2, 3], 9, 4096, 0)),
+        (5, Leave::Torn(238), ([1, 238, 238], 238, 4096, 238)),
+        (4, Leave::New, ([1, 7, 8], 9, 2048, 0)),
+        (2, Leave::Torn(238), ([1, 2, 3], 0, 2048, 0)),
+        (1, Leave::Torn(238), ([238, 238, 238], 0, 2048, 0)),
+        (0, Leave::New, ([0, 0, 0], 0, 2048, 0)),
+    ] {
+        assert!(rt; moment <= disk.moment());
+        let image = disk.left_at(alloc, moment, leave)?;
+        assert_eq!(rt; image.len(), 9);
+        assert!(rt; is_image(&image));
+        assert!(rt; seen(&image) == Some(want), "at {moment} {leave:?}");
+    }
+    Ok(())
+}
+
+#[test]
+fn an_image_is_a_disk(rt: HostRuntime) -> Result<(), Fail> {
+    let alloc = rt.alloc();
+    let root = vec![in alloc; 5; 2048]?;
+    let image = vec![in alloc; root]?;
+    assert!(rt; is_image(&image));
+    let mut disk = MemDisk::from_image(alloc, image, [2].to_vec(alloc)?);
+    assert_eq!(rt; disk.pages(0), 1);
+    assert_eq!(rt; disk.pages(8), 0);
+    let mut page = [0; 4];
+    assert!(rt; disk.read(0, 2044, &mut page).is_ok());
+    assert_eq!(rt; page, [5; 4]);
+    assert!(rt; disk.grow(8, 3).is_err());
+    assert_eq!(rt; disk.faults(), 1);
+    assert!(rt; disk.grow(8, 3).is_ok());
+    assert_eq!(rt; disk.pages(8), 3);
+    assert!(rt; disk.grow(9, 1).is_err());
+    Ok(())
+}
+
+#[test]
+fn files_are_a_disk(rt: HostRuntime) -> Result<(), Fail> {
+    let mut disk = FileDisk::new(&rt);
+    assert_eq!(rt; disk.pages(7), 0);
+    assert!(rt; disk.grow(7, 2).is_ok());
+    assert!(rt; disk.pages(7) == 2);
+    assert!(rt; disk.write_at(7, 2046, &[1, 2, 3]).is_ok());
+    assert!(rt; disk.sync().is_ok());
+    assert!(rt; disk.grow(6, 0).is_ok());
+    assert_eq!(rt; disk.moment(), 4);
+    let mut again = FileDisk::new(&rt);
+    assert!(rt; again.pages(7) == 2);
+    let mut bytes = [7; 4];
+    assert!(rt; again.read(7, 2045, &mut bytes).is_ok());
+    assert_eq!(rt; bytes, [0, 1, 2, 3]);
+    std::fs::remove_file(&rt, "data7.chk")?;
+    assert_eq!(rt; again.faults(), 0);
+    Ok(())
+}
+
+#[test]
+fn laws_hold_of_each_disk() {
+    laws::started::<MemDisk, Brand>();
+    laws::goes_on::<FileDisk, Brand>();
+    laws::torn::<MemDisk, Brand>();
+    laws::stays::<MemDisk, Brand>();
+    laws::seen_as::<MemDisk, Brand, Brand>();
+    laws::then::<MemDisk, Brand, Brand, Brand>();
 }
