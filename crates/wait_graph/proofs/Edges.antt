@@ -1,0 +1,100 @@
+-- The targets of a thread are those that it waits for.
+use Rattle.std.proofs.Common.{◌≡◌, ◌≢◌, ◌∙◌, sym, ap, subst, refl, ℕ, zero, suc, ◌+◌, ◌<◌, ◌≤◌, ◌==◌, Bool, true, false, cond, ◌||◌, List, [], ◌∷◌, ◌++◌, length, map, slice_index_or, arith, ◌⊎◌, inl, inr, append_assoc, append-nil}
+use Rattle.std.specs.List.{Contains, filter, list_any}
+use Rattle.std.proofs.lemmas.Bool.Decides.{eqb_tells, Decides-eqb}
+use Rattle.ids_base.specs.declared.lock.LockEntry.{LockEntry}
+use Rattle.ids_base.specs.Waits.{conflicts, WaitsFor, WaitInTurn}
+use Rattle.wait_graph.specs.Cycles.{IsCycle}
+use Rattle.wait_graph.specs.Targets.{against_of, targets_from, targets, among}
+use Rattle.wait_graph.specs.Search.{Waits}
+use Rattle.wait_graph.proofs.Trees.{among-cons, among-first, among-later}
+
+pub record Against (w : LockEntry) (es : List LockEntry) (b : ℕ) : Type 0 where
+  pub other : LockEntry
+  pub there : Contains es other
+  pub against : conflicts w other ≡ true
+  pub of_b : other.thread ≡ b
+
+here-first : (e : LockEntry) (es : List LockEntry) → Contains (e ∷ es) e
+here-first e es = (0, omega arith, refl)
+
+there-later : (x e : LockEntry) (es : List LockEntry) → Contains es e → Contains (x ∷ es) e
+there-later x e es c = (suc c.0, (let l = c.1 in omega (arith, l)), c.2)
+
+later-against : (w x : LockEntry) (es : List LockEntry) (b : ℕ) → Against w es b → Against w (x ∷ es) b
+later-against w x es b a = record { other = a.other; there = there-later x a.other es a.there; against = a.against; of_b = a.of_b }
+
+pub against-from : (w : LockEntry) (es : List LockEntry) (b : ℕ) → among b (against_of w es) ≡ true → Against w es b
+against-from w [] b h = cc
+against-from w (e ∷ es) b h = by-test (conflicts w e) refl h (λ k. against-from w es b k)
+  where
+    by-test : (t : Bool) → conflicts w e ≡ t → among b (map (λ x. x.thread) (cond t (e ∷ filter (conflicts w) es) (filter (conflicts w) es))) ≡ true
+        → (among b (against_of w es) ≡ true → Against w es b) → Against w (e ∷ es) b
+    by-test true is h more = elim (among-cons b e.thread (against_of w es) h) as (λ v. Against w (e ∷ es) b)
+        [ inl f ↦ record { other = e; there = here-first e es; against = is; of_b = f } | inr r ↦ later-against w e es b (more r) ]
+    by-test false is h more = later-against w e es b (more h)
+
+pub against-to : (w : LockEntry) (es : List LockEntry) (b : ℕ) (e : LockEntry) → (k : ℕ) → k < length es → slice_index_or es k e ≡ e → conflicts w e ≡ true → e.thread ≡ b → among b (against_of w es) ≡ true
+against-to w [] b e k lt is c f = absurd (omega arith)
+against-to w (x ∷ es) b e zero lt is c f =
+    ap (λ t. among b (map (λ y. y.thread) (cond t (x ∷ filter (conflicts w) es) (filter (conflicts w) es)))) (ap (conflicts w) is ∙ c)
+    ∙ subst (λ n. among n (x.thread ∷ against_of w es) ≡ true) (ap (λ y. y.thread) is ∙ f) (among-first x.thread (against_of w es))
+against-to w (x ∷ es) b e (suc k) lt is c f = by-test (conflicts w x) (against-to w es b e k (omega arith) is c f)
+  where
+    by-test : (t : Bool) → among b (against_of w es) ≡ true → among b (map (λ y. y.thread) (cond t (x ∷ filter (conflicts w) es) (filter (conflicts w) es))) ≡ true
+    by-test true h = among-later b x.thread (against_of w es) h
+    by-test false h = h
+
+among-append : (b : ℕ) (xs ys : List ℕ) → among b (xs ++ ys) ≡ true → (among b xs ≡ true) ⊎ (among b ys ≡ true)
+among-append b [] ys h = inr h
+among-append b (x ∷ xs) ys h = elim (among-cons b x (xs ++ ys) h) as (λ v. (among b (x ∷ xs) ≡ true) ⊎ (among b ys ≡ true)) [
+  | inl e ↦ inl (subst (λ n. among n (x ∷ xs) ≡ true) e (among-first x xs))
+  | inr r ↦ elim (among-append b xs ys r) as (λ v. (among b (x ∷ xs) ≡ true) ⊎ (among b ys ≡ true)) [ inl a ↦ inl (among-later b x xs a) | inr c ↦ inr c ]
+]
+
+among-left : (b : ℕ) (xs ys : List ℕ) → among b xs ≡ true → among b (xs ++ ys) ≡ true
+among-left b [] ys h = cc
+among-left b (x ∷ xs) ys h = elim (among-cons b x xs h) as (λ v. among b (x ∷ (xs ++ ys)) ≡ true)
+    [ inl e ↦ subst (λ n. among n (x ∷ (xs ++ ys)) ≡ true) e (among-first x (xs ++ ys)) | inr r ↦ among-later b x (xs ++ ys) (among-left b xs ys r) ]
+
+among-right : (b : ℕ) (xs ys : List ℕ) → among b ys ≡ true → among b (xs ++ ys) ≡ true
+among-right b [] ys h = h
+among-right b (x ∷ xs) ys h = among-later b x (xs ++ ys) (among-right b xs ys h)
+
+pub waits-from : (held earlier ws : List LockEntry) (a b : ℕ) → among b (targets_from held earlier a ws) ≡ true → WaitsFor held (earlier ++ ws) a b
+waits-from held earlier [] a b h = cc
+waits-from held earlier (w ∷ ws) a b h =
+    elim (among-append b (cond (w.thread == a) (against_of w (held ++ earlier)) []) (targets_from held (earlier ++ w ∷ []) a ws) h) as (λ v. WaitsFor held (earlier ++ w ∷ ws) a b) [
+      | inl f ↦ first (w.thread == a) refl f
+      | inr r ↦ subst (λ v. WaitsFor held v a b) (append_assoc earlier (w ∷ []) ws) (waits-from held (earlier ++ w ∷ []) ws a b r)
+    ]
+  where
+    first : (t : Bool) → (w.thread == a) ≡ t → among b (cond t (against_of w (held ++ earlier)) []) ≡ true → WaitsFor held (earlier ++ w ∷ ws) a b
+    first true is f = let g = against-from w (held ++ earlier) b f in
+        record { waiter = w; before = earlier; after = ws; stands = refl; of_a = (Decides-eqb w.thread a).0 is; other = g.other; of_b = g.of_b; there = g.there; against = g.against }
+    first false is f = cc
+
+pub waits-to : (held earlier before : List LockEntry) (w : LockEntry) (after : List LockEntry) (a b : ℕ) → w.thread ≡ a → Against w (held ++ (earlier ++ before)) b
+    → among b (targets_from held earlier a (before ++ w ∷ after)) ≡ true
+waits-to held earlier [] w after a b is g =
+    among-left b (cond (w.thread == a) (against_of w (held ++ earlier)) []) (targets_from held (earlier ++ w ∷ []) a after)
+    (ap (λ t. among b (cond t (against_of w (held ++ earlier)) [])) ((Decides-eqb w.thread a).1 is)
+    ∙ (let c : Contains (held ++ earlier) g.other = subst (λ v. Contains (held ++ v) g.other) (append-nil earlier) g.there in against-to w (held ++ earlier) b g.other c.0 c.1 c.2 g.against g.of_b))
+waits-to held earlier (x ∷ before) w after a b is g =
+    among-right b (cond (x.thread == a) (against_of x (held ++ earlier)) []) (targets_from held (earlier ++ x ∷ []) a (before ++ w ∷ after))
+    (waits-to held (earlier ++ x ∷ []) before w after a b is (subst (λ v. Against w (held ++ v) b) (sym (append_assoc earlier (x ∷ []) before)) g))
+
+pub edge-from : (held waiting : List LockEntry) (a b : ℕ) → Waits (targets held waiting) a b → WaitsFor held waiting a b
+edge-from held waiting a b h = waits-from held [] waiting a b h
+
+pub edge-to : (held waiting : List LockEntry) (a b : ℕ) → WaitsFor held waiting a b → Waits (targets held waiting) a b
+edge-to held waiting a b w = subst (λ v. among b (targets_from held [] a v) ≡ true) (sym w.stands)
+    (waits-to held [] w.before w.waiter w.after a b w.of_a (record { other = w.other; there = w.there; against = w.against; of_b = w.of_b }))
+
+turn-mapped : (V W : ℕ → ℕ → Type 0) → ((a b : ℕ) → V a b → W a b) → (start : ℕ) (xs : List ℕ) → WaitInTurn V start xs → WaitInTurn W start xs
+turn-mapped V W f start [] h = tt
+turn-mapped V W f start (a ∷ []) h = f a start h
+turn-mapped V W f start (a ∷ b ∷ rest) h = (f a b h.0, turn-mapped V W f start (b ∷ rest) h.1)
+
+pub cycle-mapped : (V W : ℕ → ℕ → Type 0) → ((a b : ℕ) → V a b → W a b) → (start : ℕ) (xs : List ℕ) → IsCycle V start xs → IsCycle W start xs
+cycle-mapped V W f start xs c = record { others = c.others; starts = c.starts; once = c.once; in_turn = turn-mapped V W f start xs c.in_turn }

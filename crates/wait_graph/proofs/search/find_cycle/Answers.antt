@@ -1,0 +1,39 @@
+use Rattle.std.proofs.Common.{◌≡◌, ◌≢◌, ◌∙◌, ◌<◌, ◌+◌, ℕ, sym, ap, subst, length, slice_index, arith, refl, ◌⊎◌, inl, inr, false, true, Ok, List, vec_len}
+use Rattle.std.proofs.lemmas.Bool.Decides.{eqb_tells}
+use Rattle.wait_graph.specs.Targets.{targets, among}
+use Rattle.wait_graph.specs.Search.{IsTree, IsClosedAt, IsLonger}
+use Rattle.wait_graph.proofs.Trees.{none-closed, closed-longer, at-among}
+use Rattle.wait_graph.proofs.search.find_cycle.Goals as goal
+
+closed-more : (next : ℕ → List ℕ) (start : ℕ) (old new : List ℕ) (n : ℕ) → n < length old → IsLonger old new → ((j : ℕ) → j < n → IsClosedAt next start old j) → IsClosedAt next start new n → (j : ℕ) → j < n + 1 → IsClosedAt next start new j
+closed-more next start old new n low l before now j lt = elim (eqb_tells j n) as (λ v. IsClosedAt next start new j) [
+  | inl t ↦ subst (λ k. IsClosedAt next start new k) (sym t.1) now
+  | inr f ↦ let g = f.1 in let jn : j < n = omega (arith, g, lt) in closed-longer next start old new j (omega (arith, jn, low)) l (before j jn)
+]
+
+pub loop-at-preserved : goal.loop-at-preserved
+loop-at-preserved c =
+    let next = targets c.args.held.now c.args.waiting.now in
+    let i = c.loop-at.invariant in
+    let old = c.loop-at.found.threads.items in
+    let new = c.explore.new.found.threads.items in
+    let e : vec_len c.loop-at.found.threads ≡ length old = c.loop-at.found.threads.ok.0 in
+    let l = c.len.ensures in let t = c.loop-at-test.true in
+    let low : c.loop-at.at < length old = omega (arith, e, l, t) in
+    record {
+      tree = c.in_ok-explore.ensures.tree;
+      bounded = c.in_ok-explore.ensures.bounded;
+      most = c.in_ok-explore.ensures.most ∙ i.most;
+      within = (let l = c.in_ok-explore.ensures.longer.length_grows in omega (arith, l, low));
+      closed = closed-more next c.args.start old new c.loop-at.at low c.in_ok-explore.ensures.longer i.closed (c.in_ok-explore.ensures.closed (ap Ok c.if-branch.false));
+    }
+
+pub returns-clause-none : goal.returns-clause-none
+returns-clause-none c = λ h threads cycle.
+    let next = targets c.args.held.now c.args.waiting.now in
+    let i = c.loop-at.invariant in
+    let found = c.loop-at.found.threads.items in
+    let e : vec_len c.loop-at.found.threads ≡ length found = c.loop-at.found.threads.ok.0 in
+    let far = c.loop-at-test.false in let len = c.len.ensures in
+    none-closed next c.args.start found (λ j lt. i.closed j (omega (arith, e, far, len, lt)))
+    (subst (λ n. among n found ≡ true) i.tree.first (at-among found 0 i.tree.some)) threads cycle

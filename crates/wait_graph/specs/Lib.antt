@@ -1,0 +1,4 @@
+pub mod Cycles
+pub mod Queued
+pub mod Search
+pub mod Targets

@@ -1,0 +1,163 @@
+//! The search along waits.
+ghost use Rattle.std.specs.Prelude.{◌≡◌, ◌<◌, ◌≤◌, ◌+◌, ℕ, OnOk, IfOk, IfSome, length, slice_index, Ok, None, Some, true, false, List};
+ghost use Rattle.wait_graph.specs.Cycles.{IsCycle};
+ghost use Rattle.wait_graph.specs.Targets.{targets as targets_of, among};
+ghost use Rattle.wait_graph.specs.Search.{Waits, IsTree, IsClosedAt, IsLonger, AreAll};
+
+use crate::targets::targets;
+use ids_base::lock::LockEntry;
+use ids_base::numbers::ThreadNo;
+use std::alloc::{AllocError, Global};
+
+// The threads found, and for each the place of the one that it was found from. `most` bounds how many there can be.
+#[derive(Drop)]
+struct Found {
+    threads: Vec<ThreadNo>,
+    parents: Vec<usize>,
+    most: usize,
+}
+
+fn is_among(thread: ThreadNo, threads: &[ThreadNo]) -> bool
+    ensures { result ≡ among thread threads.now }
+{
+    threads.iter().any(|other| *other == thread)
+}
+
+// Adds a thread that the one at place `from` waits for, unless it is there.
+fn add(
+    found: &mut Found,
+    held: &[LockEntry],
+    waiting: &[LockEntry],
+    start: ThreadNo,
+    from: usize,
+    thread: ThreadNo,
+) -> Result<(), AllocError>
+    requires tree { IsTree (targets_of held.now waiting.now) start found.old.threads.items found.old.parents.items }
+    requires from { from < length found.old.threads.items }
+    requires waits { Waits (targets_of held.now waiting.now) (slice_index found.old.threads.items from) thread }
+    requires bounded { length found.old.threads.items ≤ found.old.most }
+    ensures tree { OnOk result (IsTree (targets_of held.now waiting.now) start found.new.threads.items found.new.parents.items) }
+    ensures there { OnOk result (among thread found.new.threads.items ≡ true) }
+    ensures longer { OnOk result (IsLonger found.old.threads.items found.new.threads.items) }
+    ensures bounded { OnOk result (length found.new.threads.items ≤ found.new.most) }
+    ensures most { found.new.most ≡ found.old.most }
+{
+    if is_among(thread, found.threads.as_slice()) {
+        return Ok(());
+    }
+    if found.threads.len() >= found.most {
+        return Err(AllocError);
+    }
+    found.threads.push(thread)?;
+    found.parents.push(from)?;
+    Ok(())
+}
+
+// Adds these threads, which the one at place `at` waits for, up to `start`; tells whether `start` is among them.
+fn add_all(
+    found: &mut Found,
+    held: &[LockEntry],
+    waiting: &[LockEntry],
+    at: usize,
+    start: ThreadNo,
+    next: &[ThreadNo],
+) -> Result<bool, AllocError>
+    requires start { slice_index found.old.threads.items 0 ≡ start }
+    requires tree { IsTree (targets_of held.now waiting.now) start found.old.threads.items found.old.parents.items }
+    requires at { at < length found.old.threads.items }
+    requires waits { (j : ℕ) → j < length next.now → Waits (targets_of held.now waiting.now) (slice_index found.old.threads.items at) (slice_index next.now j) }
+    requires bounded { length found.old.threads.items ≤ found.old.most }
+    ensures tree { OnOk result (IsTree (targets_of held.now waiting.now) start found.new.threads.items found.new.parents.items) }
+    ensures closes { result ≡ Ok true → among start next.now ≡ true }
+    ensures closed { result ≡ Ok false → AreAll start found.new.threads.items next.now (length next.now) }
+    ensures longer { OnOk result (IsLonger found.old.threads.items found.new.threads.items) }
+    ensures bounded { OnOk result (length found.new.threads.items ≤ found.new.most) }
+    ensures most { found.new.most ≡ found.old.most }
+{
+    for thread in next {
+        if *thread == start {
+            return Ok(true);
+        }
+        add(found, held, waiting, start, at, *thread)?;
+    }
+    Ok(false)
+}
+
+// Adds all that the thread at place `at` waits for, and tells whether the first thread is among them.
+fn explore(
+    alloc: Global,
+    found: &mut Found,
+    held: &[LockEntry],
+    waiting: &[LockEntry],
+    at: usize,
+    start: ThreadNo,
+) -> Result<bool, AllocError>
+    requires start { slice_index found.old.threads.items 0 ≡ start }
+    requires tree { IsTree (targets_of held.now waiting.now) start found.old.threads.items found.old.parents.items }
+    requires at { at < length found.old.threads.items }
+    requires bounded { length found.old.threads.items ≤ found.old.most }
+    ensures tree { OnOk result (IsTree (targets_of held.now waiting.now) start found.new.threads.items found.new.parents.items) }
+    ensures closes { result ≡ Ok true → Waits (targets_of held.now waiting.now) (slice_index found.old.threads.items at) start }
+    ensures closed { result ≡ Ok false → IsClosedAt (targets_of held.now waiting.now) start found.new.threads.items at }
+    ensures longer { OnOk result (IsLonger found.old.threads.items found.new.threads.items) }
+    ensures bounded { OnOk result (length found.new.threads.items ≤ found.new.most) }
+    ensures most { found.new.most ≡ found.old.most }
+{
+    let next = targets(alloc, held, waiting, found.threads[at])?;
+    add_all(found, held, waiting, at, start, next.as_slice())
+}
+
+// The cycle that the thread at place `last` closes by waiting for the first one.
+fn path_to(
+    alloc: Global,
+    found: &Found,
+    held: &[LockEntry],
+    waiting: &[LockEntry],
+    last: usize,
+) -> Result<Vec<ThreadNo>, AllocError>
+    requires tree { IsTree (targets_of held.now waiting.now) (slice_index found.now.threads.items 0) found.now.threads.items found.now.parents.items }
+    requires last { last < length found.now.threads.items }
+    requires closes { Waits (targets_of held.now waiting.now) (slice_index found.now.threads.items last) (slice_index found.now.threads.items 0) }
+    ensures { IfOk result (λ v. IsCycle (Waits (targets_of held.now waiting.now)) (slice_index found.now.threads.items 0) v.items) }
+{
+    let mut path = Vec::new(alloc);
+    let mut at = last;
+    path.push(found.threads[at])?;
+    while at > 0 {
+        at = found.parents[at];
+        if path.insert(0, found.threads[at]).is_err() {
+            return Err(AllocError);
+        }
+    }
+    Ok(path)
+}
+
+// The cycle that `start` closes, if there is one.
+pub fn find_cycle(
+    alloc: Global,
+    held: &[LockEntry],
+    waiting: &[LockEntry],
+    start: ThreadNo,
+) -> Result<Option<Vec<ThreadNo>>, AllocError>
+    ensures found { IfOk result (λ o. IfSome o (λ v. IsCycle (Waits (targets_of held.now waiting.now)) start v.items)) }
+    ensures none { result ≡ Ok None → (threads : List ℕ) → IsCycle (Waits (targets_of held.now waiting.now)) start threads → ⊥ }
+{
+    let mut threads = Vec::new(alloc);
+    threads.push(start)?;
+    let mut parents = Vec::new(alloc);
+    parents.push(0)?;
+    let most = held.len().saturating_add(waiting.len()).saturating_add(1);
+    let mut found = Found {
+        threads,
+        parents,
+        most,
+    };
+    let mut at = 0;
+    while at < found.threads.len() {
+        if explore(alloc, &mut found, held, waiting, at, start)? {
+            return Ok(Some(path_to(alloc, &found, held, waiting, at)?));
+        }
+        at += 1;
+    }
+    Ok(None)
+}
