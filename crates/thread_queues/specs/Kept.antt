@@ -1,0 +1,28 @@
+-- What is kept of threads: each in one place, and room for each in every queue.
+use Rattle.std.specs.Prelude.{ℕ, ◌+◌, ◌≡◌, ◌≤◌, List, length, map, option_to_list}
+use Rattle.std.specs.List.{flat_map}
+use Rattle.std.specs.Vec.{vec_capacity}
+use Rattle.thread_queues.specs.Placed.{Placed, times}
+use Rattle.thread_queues.specs.declared.places.Threads.TheInside.{Inside}
+
+-- a count of all places, part by part
+abbrev pub all_places : (List ℕ → ℕ) → Placed → ℕ
+all_places f p =
+    f p.ready.cpu + (f p.ready.lio + (f p.ready.pio + (f p.ready.aio
+    + (f (map (λ w. w.thread) p.waits) + (f (map (λ s. s.thread) p.sleeps) + f (flat_map option_to_list p.running))))))
+
+abbrev pub placed_of : Inside → Placed
+placed_of a = record { cpu = a.cpu; tick = a.tick; live = a.live.items; ready = a.ready.queues; waits = a.waits.items; sleeps = a.sleeps.items; running = a.running.items }
+
+-- no live thread twice; the places hold the live threads, as many as there are
+pub record IsCounted (p : Placed) : Type 0 where
+  pub once : (n : ℕ) → times n p.live ≤ 1
+  pub placed : (n : ℕ) → all_places (times n) p ≡ times n p.live
+  pub size : all_places length p ≡ length p.live
+  pub processors : length p.running ≡ p.cpu + 3
+
+pub record IsKept (a : Inside) : Type 0 where
+  pub counted : IsCounted (placed_of a)
+  pub ready_room : length a.live.items ≤ a.ready.room
+  pub waits_room : length a.live.items ≤ vec_capacity a.waits
+  pub sleeps_room : length a.live.items ≤ vec_capacity a.sleeps

@@ -1,0 +1,5 @@
+pub mod Events
+pub mod Kept
+pub mod Placed
+pub mod Roomy
+pub mod Ticks

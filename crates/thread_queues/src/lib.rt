@@ -1,0 +1,12 @@
+//! Threads that are ready, wait, sleep or run, each in exactly one place.
+//!
+//! `Event` is what a thread may wait for, and `Threads` keeps the queues and the processors.
+#![tactic(auto)]
+
+mod due;
+pub mod event;
+pub mod places;
+mod ready;
+
+pub use event::Event;
+pub use places::Threads;

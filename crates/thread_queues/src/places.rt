@@ -1,0 +1,363 @@
+//! The places of threads.
+ghost use Rattle.std.specs.Prelude.{◌≡◌, ◌==◌, ◌<◌, ◌≤◌, ◌+◌, ◌↔◌, ℕ, [], None, Some, IfOk, OnOk, OnErr, IsNone, IsSome, IsTrue, length, slice_get, option_map};
+ghost use Rattle.std.specs.List.{position_or_len};
+ghost use Rattle.ids_base.specs.Classes.{class_of};
+ghost use Rattle.thread_queues.specs.Events.{is_event};
+ghost use Rattle.thread_queues.specs.Placed.{times as count, queue, running_at, thread_at, first_waiter, idle, spawned, dispatched, yielded, waiting, sleeping, ended, woken_one, woken_at, roused_at, woken, IsStill, IsPlaced};
+ghost use Rattle.thread_queues.specs.Ticks.{due_threads, first_due, still_count, raised, ticked};
+
+use crate::due;
+use crate::event::{Due, Event, Sleeper, Waiter};
+use crate::ready::Ready;
+use ids_base::class::Class;
+use ids_base::numbers::ThreadNo;
+use std::alloc::{AllocError, Global};
+use std::marker::Model;
+
+/// Live threads: each is ready, waits for one event, sleeps, or runs on one processor.
+#[derive(Drop)]
+pub struct Threads {
+    cpu: u32,
+    tick: u64,
+    live: Vec<ThreadNo>,
+    ready: Ready,
+    waits: Vec<Waiter>,
+    sleeps: Vec<Sleeper>,
+    running: Vec<Option<ThreadNo>>,
+}
+
+impl Model for Threads {
+    ghost use Rattle.thread_queues.specs.Placed.{Placed};
+
+    ghost Value = { Placed };
+
+    ghost use Rattle.thread_queues.specs.Kept.{placed_of, IsKept};
+
+    ghost view = { placed_of };
+
+    ghost invariant = { IsKept };
+}
+
+impl Threads {
+    /// No thread, tick 0, and processors that run nothing: `cpu` of class CPU, then one each of LIO, PIO and AIO.
+    pub fn new(alloc: Global, cpu: u32) -> Result<Self, AllocError>
+        requires { cpu ≤ 16 }
+        ensures { IfOk result (λ t. t ≡ idle cpu) }
+    {
+        let mut running = Vec::with_capacity(alloc, cpu as usize + 3)?;
+        for _ in 0..cpu + 3 {
+            running.push_reserved(None);
+        }
+        Ok(Self {
+            cpu,
+            tick: 0,
+            live: Vec::new(alloc),
+            ready: Ready::new(alloc),
+            waits: Vec::new(alloc),
+            sleeps: Vec::new(alloc),
+            running,
+        })
+    }
+
+    /// The tick. Takes constant time.
+    pub fn now(&self) -> u64
+        ensures tick { result ≡ self.now.tick }
+        ensures placed { IsPlaced self.now }
+    {
+        self.tick
+    }
+
+    /// How many processors there are. Takes constant time.
+    pub fn processors(&self) -> usize
+        ensures { result ≡ length self.now.running }
+    {
+        self.running.len()
+    }
+
+    /// The thread that a processor runs. Takes constant time.
+    pub fn running(&self, vp: u32) -> Option<ThreadNo>
+        requires { vp < length self.now.running }
+        ensures { result ≡ running_at self.now vp }
+    {
+        self.running[vp as usize]
+    }
+
+    /// Makes a thread, which goes to the end of its class's ready queue.
+    ///
+    /// Takes room for it in every queue, so that no later call takes any. For want of memory nothing changes.
+    pub fn spawn(&mut self, thread: ThreadNo, class: Class) -> Result<(), AllocError>
+        requires { count thread self.old.live ≡ 0 }
+        ensures spawned { OnOk result (self.new ≡ spawned self.old thread class) }
+        ensures unchanged { OnErr result (self.new ≡ self.old) }
+    {
+        let more = self.live.len() + 1;
+        self.ready.make_room(more)?;
+        self.waits.reserve(more - self.waits.len())?;
+        self.sleeps.reserve(more - self.sleeps.len())?;
+        self.live.push(thread)?;
+        self.ready.push(class, thread);
+        Ok(())
+    }
+
+    /// Lets a processor run the head of its class's ready queue, and answers it: None exactly where the queue is empty.
+    pub fn dispatch(&mut self, vp: u32) -> Option<ThreadNo>
+        requires there { vp < length self.old.running }
+        requires free { running_at self.old vp ≡ None }
+        ensures head { result ≡ slice_get (queue self.old.ready (class_of self.old.cpu vp)) 0 }
+        ensures dispatched { self.new ≡ dispatched self.old vp }
+    {
+        let thread = self.ready.pop(Class::of_processor(self.cpu, vp));
+        self.running[vp as usize] = thread;
+        thread
+    }
+
+    /// The thread on a processor goes to the end of its class's ready queue.
+    pub fn yield_now(&mut self, vp: u32)
+        requires { IsSome (running_at self.old vp) }
+        ensures { self.new ≡ yielded self.old vp }
+    {
+        if let Some(thread) = self.running[vp as usize] {
+            self.running[vp as usize] = None;
+            self.ready.push(Class::of_processor(self.cpu, vp), thread);
+        }
+    }
+
+    /// The thread on a processor waits for an event, behind those that wait for it already.
+    pub fn wait_on(&mut self, vp: u32, event: Event)
+        requires { IsSome (running_at self.old vp) }
+        ensures { self.new ≡ waiting self.old vp event None }
+    {
+        self.wait(vp, event, None);
+    }
+
+    /// The same with a limit: at that tick the thread is due, and the event is waited for no more.
+    pub fn wait_until(&mut self, vp: u32, event: Event, tick: u64)
+        requires { IsSome (running_at self.old vp) }
+        ensures { self.new ≡ waiting self.old vp event (Some tick) }
+    {
+        self.wait(vp, event, Some(tick));
+    }
+
+    fn wait(&mut self, vp: u32, event: Event, due: Option<u64>)
+        requires { IsSome (running_at self.old vp) }
+        ensures { self.new ≡ waiting self.old vp event due }
+    {
+        if let Some(thread) = self.running[vp as usize] {
+            self.running[vp as usize] = None;
+            self.waits.push_reserved(Waiter {
+                event,
+                thread,
+                class: Class::of_processor(self.cpu, vp),
+                due,
+            });
+        }
+    }
+
+    /// The thread on a processor sleeps until a tick.
+    pub fn sleep_until(&mut self, vp: u32, tick: u64)
+        requires { IsSome (running_at self.old vp) }
+        ensures { self.new ≡ sleeping self.old vp tick }
+    {
+        if let Some(thread) = self.running[vp as usize] {
+            self.running[vp as usize] = None;
+            self.sleeps.push_reserved(Sleeper {
+                due: tick,
+                thread,
+                class: Class::of_processor(self.cpu, vp),
+            });
+        }
+    }
+
+    /// The thread on a processor ends.
+    pub fn end(&mut self, vp: u32)
+        requires { IsSome (running_at self.old vp) }
+        ensures { self.new ≡ ended self.old vp }
+    {
+        if let Some(thread) = self.running[vp as usize] {
+            self.running[vp as usize] = None;
+            let place = live_place(&self.live, thread);
+            self.live.remove(place);
+        }
+    }
+
+    /// The thread that waits longest for an event gets ready. Answers it, and None exactly where nobody waits.
+    pub fn wake_one(&mut self, event: Event) -> Option<ThreadNo>
+        ensures thread { result ≡ option_map (λ w. w.thread) (first_waiter self.old event) }
+        ensures woken { self.new ≡ woken_one self.old event }
+    {
+        let place = first_for(&self.waits, event);
+        if place < self.waits.len() {
+            Some(self.wake_at(place))
+        } else {
+            None
+        }
+    }
+
+    /// The waiting thread at this place gets ready.
+    fn wake_at(&mut self, place: usize) -> ThreadNo
+        requires { place < length self.old.waits }
+        ensures thread { option_map (λ w. w.thread) (slice_get self.old.waits place) ≡ Some result }
+        ensures woken { self.new ≡ woken_at self.old place (slice_get self.old.waits place) }
+    {
+        let waiter = self.waits.remove(place);
+        self.ready.push(waiter.class, waiter.thread);
+        waiter.thread
+    }
+
+    /// A thread that waits or sleeps gets ready.
+    pub fn wake(&mut self, thread: ThreadNo)
+        requires { IsStill self.old thread }
+        ensures { self.new ≡ woken self.old thread }
+    {
+        let place = waiter_place(&self.waits, thread);
+        if place < self.waits.len() {
+            self.wake_at(place);
+        } else {
+            let place = sleeper_place(&self.sleeps, thread);
+            self.rouse_at(place);
+        }
+    }
+
+    /// The tick rises by one, and the threads that wait with a limit or sleep and are due get ready: by due tick, then by number.
+    ///
+    /// Takes time in proportion to the threads that get ready, times those that wait or sleep.
+    pub fn tick(&mut self)
+        requires { self.old.tick < 18446744073709551615 }
+        ensures ticked { self.new ≡ ticked self.old }
+        ensures none_due { due_threads self.new ≡ [] }
+    {
+        self.raise_tick();
+        while let Some(due) = self.first_due() {
+            self.wake(due.thread);
+        }
+    }
+
+    /// The tick rises by one, and no thread is woken.
+    fn raise_tick(&mut self)
+        requires { self.old.tick < 18446744073709551615 }
+        ensures { self.new ≡ raised self.old }
+    {
+        self.tick += 1;
+    }
+
+    /// The due thread that is woken first.
+    fn first_due(&self) -> Option<Due>
+        ensures { result ≡ first_due self.now }
+    {
+        let waiter = due::first_waiter(&self.waits, self.tick);
+        due::first_sleeper(waiter, &self.sleeps, self.tick)
+    }
+
+    /// The sleeping thread at this place gets ready.
+    fn rouse_at(&mut self, place: usize)
+        requires { place < length self.old.sleeps }
+        ensures { self.new ≡ roused_at self.old place (slice_get self.old.sleeps place) }
+    {
+        let sleeper = self.sleeps.remove(place);
+        self.ready.push(sleeper.class, sleeper.thread);
+    }
+}
+
+/// Where the first waiter for an event stands, and how many there are where none does.
+fn first_for(waits: &[Waiter], event: Event) -> usize
+    ensures { result ≡ position_or_len (λ w. is_event w.event event) waits.now }
+{
+    for (i, waiter) in waits.iter().enumerate() {
+        if same_event(waiter.event, event) {
+            return i;
+        }
+    }
+    waits.len()
+}
+
+/// Whether two events are the same.
+fn same_event(a: Event, b: Event) -> bool
+    ensures { result ≡ is_event a b }
+{
+    match (a, b) {
+        (Event::Latch(f), Event::Latch(g)) => f == g,
+        (Event::Page(p), Event::Page(q)) => p == q,
+        (Event::Lock, Event::Lock)
+        | (Event::LogFlush, Event::LogFlush)
+        | (Event::PhysFlush, Event::PhysFlush)
+        | (Event::LogSpace, Event::LogSpace)
+        | (Event::Checkpoint, Event::Checkpoint)
+        | (Event::Critical, Event::Critical)
+        | (Event::Cleaning, Event::Cleaning) => true,
+        _ => false,
+    }
+}
+
+/// Where a thread waits, and how many threads wait where it does not.
+fn waiter_place(waits: &[Waiter], thread: ThreadNo) -> usize
+    ensures { result ≡ position_or_len (λ w. w.thread == thread) waits.now }
+{
+    for (i, waiter) in waits.iter().enumerate() {
+        if waiter.thread == thread {
+            return i;
+        }
+    }
+    waits.len()
+}
+
+/// Where a thread sleeps, and how many threads sleep where it does not.
+fn sleeper_place(sleeps: &[Sleeper], thread: ThreadNo) -> usize
+    ensures { result ≡ position_or_len (λ s. s.thread == thread) sleeps.now }
+{
+    for (i, sleeper) in sleeps.iter().enumerate() {
+        if sleeper.thread == thread {
+            return i;
+        }
+    }
+    sleeps.len()
+}
+
+/// Where a number stands among the live threads, and how many there are where it does not.
+fn live_place(live: &[ThreadNo], thread: ThreadNo) -> usize
+    ensures { result ≡ position_or_len (λ t. t == thread) live.now }
+{
+    for (i, number) in live.iter().enumerate() {
+        if *number == thread {
+            return i;
+        }
+    }
+    live.len()
+}
+
+#[cfg(test)]
+mod tests {
+    use super::*;
+    use std::process::Abort;
+    use std::test::Fail;
+
+    /// Two threads wait for a flush, and the first of them is woken first.
+    #[test]
+    fn wakes_in_order(rt: HostRuntime) -> Result<(), Fail> {
+        let mut threads = Threads::new(rt.alloc(), 1)?;
+        threads.spawn(1, Class::Cpu)?;
+        threads.spawn(2, Class::Cpu)?;
+        threads.spawn(3, Class::Cpu)?;
+        assert_eq!(rt; start(&rt, &mut threads), Some(1));
+        assert!(rt; threads.processors() > 0);
+        assert!(rt; threads.running(0).is_some());
+        threads.wait_on(0, Event::LogFlush);
+        assert_eq!(rt; start(&rt, &mut threads), Some(2));
+        assert!(rt; threads.processors() > 0);
+        assert!(rt; threads.running(0).is_some());
+        threads.wait_on(0, Event::LogFlush);
+        assert_eq!(rt; threads.wake_one(Event::LogFlush), Some(1));
+        assert_eq!(rt; threads.wake_one(Event::Latch(1)), None);
+        assert_eq!(rt; start(&rt, &mut threads), Some(3));
+        assert!(rt; threads.processors() > 0);
+        assert!(rt; threads.running(0).is_some());
+        threads.yield_now(0);
+        assert_eq!(rt; start(&rt, &mut threads), Some(1));
+        Ok(())
+    }
+
+    fn start(rt: &impl Abort, threads: &mut Threads) -> Option<ThreadNo> {
+        assert!(rt; threads.processors() > 0);
+        assert!(rt; threads.running(0).is_none());
+        threads.dispatch(0)
+    }
+}
