@@ -1,20 +1,29 @@
 //! The program `ids`: makes the real source, sink, disk and gate, and hands them to the top call.
 #![tactic(auto)]
 
+use ids_base::status::Status;
 use ids_outside::{FileDisk, OpenGate, StdSink, StdSource};
 use ids_server::server::server;
 use std::io;
 use std::process::ExitCode;
 
-fn main(rt: HostRuntime) -> io::Result<ExitCode> {
-    let alloc = rt.alloc();
-    let mut words = Vec::new(alloc);
-    for word in std::env::args(&rt)?.skip(1) {
+// The words behind the program's name.
+fn words_of(rt: &HostRuntime) -> io::Result<Vec<String>> {
+    let mut words = Vec::new(rt.alloc());
+    for word in std::env::args(rt)?.skip(1) {
         words.push(word)?;
     }
+    Ok(words)
+}
+
+fn main(rt: HostRuntime) -> ExitCode {
+    let Ok(words) = words_of(&rt) else {
+        let _ = println!(rt; "ids: 4 memory");
+        return ExitCode::from(Status::Memory.number());
+    };
     let mut source = StdSource::new(rt.stdin());
     let sink = StdSink::new(rt.stdout());
     let disk = FileDisk::new(&rt);
-    let ended = server(alloc, &words, &mut source, disk, sink, &OpenGate);
-    Ok(ExitCode::from(ended.status.number()))
+    let ended = server(rt.alloc(), &words, &mut source, disk, sink, &OpenGate);
+    ExitCode::from(ended.status.number())
 }
