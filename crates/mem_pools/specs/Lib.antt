@@ -1,4 +1,0 @@
-pub mod Linked
-pub mod Links
-pub mod Pooled
-pub mod Slots
