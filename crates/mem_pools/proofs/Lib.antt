@@ -1,0 +1,9 @@
+pub mod Appending
+pub mod Keeping
+pub mod Linking
+pub mod Made
+pub mod Pouring
+pub mod Standing
+pub mod Steps
+pub mod Times
+pub mod Walks

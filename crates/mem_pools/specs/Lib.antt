@@ -1,0 +1,4 @@
+pub mod Linked
+pub mod Links
+pub mod Pooled
+pub mod Slots

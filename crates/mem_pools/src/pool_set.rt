@@ -1,0 +1,326 @@
+//! Pools of bytes in blocks of 2048, each with an owner.
+ghost use Rattle.std.specs.Prelude.{◌≡◌, ◌<◌, ◌≤◌, ◌+◌, ◌-◌, ◌++◌, ◌↔◌, ◌%◌, None, is_some, take, drop, length, IsErr, IsTrue, IsSome, IfOk, IfErr, OnOk, OnErr, slice_index_or};
+ghost use Rattle.std.specs.List.{count_by};
+ghost use Rattle.mem_pools.specs.Pooled.{pool_at, owner_of, chain_of, bytes_of, standing, blocks_for, unused, with_pool, wanted, appended, without_pool, IsOwned, HasBlocks};
+
+use crate::chains::Chains;
+use ids_base::numbers::ThreadNo;
+use std::alloc::{AllocError, Global};
+use std::marker::Model;
+
+/// The chain of the free blocks. A pool's chain has the pool's number and one.
+const FREE: usize = 0;
+
+/// Not enough blocks are free.
+#[derive(Clone, Copy, PartialEq, Eq, Debug)]
+pub struct NoPool {
+    /// How many the call wanted.
+    pub wanted: u32,
+    /// How many are free.
+    pub free: u32,
+}
+
+/// A pool's owner, and how many bytes it has.
+#[derive(Clone, Copy)]
+struct Slot {
+    owner: ThreadNo,
+    len: u64,
+}
+
+/// Pools of bytes. Each block of 2048 bytes is free or belongs to one pool.
+#[derive(Drop)]
+pub struct Pools {
+    chains: Chains,
+    blocks: Vec<[u8; 2048]>,
+    slots: Vec<Option<Slot>>,
+}
+
+impl Model for Pools {
+    ghost use Rattle.mem_pools.specs.Pooled.{Kept};
+
+    ghost Value = { Kept };
+
+    ghost use Rattle.mem_pools.specs.Slots.{kept_of, IsKept};
+
+    ghost view = { λ a. kept_of a.blocks.items a.slots.items a.chains };
+
+    ghost invariant = { λ a. IsKept a.blocks.items a.slots.items a.chains };
+}
+
+impl Pools {
+    /// All of `blocks` blocks free, and room for `pools` pools at once.
+    ///
+    /// Takes the memory of all blocks, and time in proportion to it. Every later call but `bytes` takes none.
+    pub fn new(alloc: Global, blocks: u32, pools: u32) -> Result<Self, AllocError>
+        ensures { IfOk result (λ p. p ≡ unused blocks pools) }
+    {
+        let chains = Chains::new(alloc, blocks, pools)?;
+        let mut data = Vec::with_capacity(alloc, blocks as usize)?;
+        for _ in 0..blocks {
+            data.push_reserved([0; 2048]);
+        }
+        let mut slots = Vec::with_capacity(alloc, pools as usize)?;
+        for _ in 0..pools {
+            slots.push_reserved(None);
+        }
+        Ok(Self {
+            chains,
+            blocks: data,
+            slots,
+        })
+    }
+
+    /// How many blocks are free. Takes constant time.
+    pub fn free(&self) -> u32
+        ensures free { result ≡ length self.now.free }
+        ensures owned { IsOwned self.now }
+    {
+        self.chains.len(FREE)
+    }
+
+    /// How many pools stand. Takes time in proportion to how many may.
+    pub fn standing(&self) -> u32
+        ensures { result ≡ standing self.now.pools }
+    {
+        standing_in(&self.slots) as u32
+    }
+
+    /// How many pools may stand at once. Takes constant time.
+    pub fn limit(&self) -> u32
+        ensures { result ≡ length self.now.pools }
+    {
+        self.slots.len() as u32
+    }
+
+    /// Whether a pool of this number stands. Takes constant time.
+    pub fn stands(&self, pool: u32) -> bool
+        ensures { IsTrue result ↔ IsSome (pool_at self.now pool) }
+    {
+        (pool as usize) < self.slots.len() && self.slots[pool as usize].is_some()
+    }
+
+    /// Who made a pool. Takes constant time.
+    pub fn owner(&self, pool: u32) -> ThreadNo
+        requires { IsSome (pool_at self.now pool) }
+        ensures { result ≡ owner_of self.now pool }
+    {
+        let Some(slot) = self.slots[pool as usize] else {
+            unreachable!()
+        };
+        slot.owner
+    }
+
+    /// How many bytes a pool has. Takes constant time.
+    pub fn len(&self, pool: u32) -> u64
+        requires { IsSome (pool_at self.now pool) }
+        ensures { result ≡ length (bytes_of self.now pool) }
+    {
+        let Some(slot) = self.slots[pool as usize] else {
+            unreachable!()
+        };
+        slot.len
+    }
+
+    /// How many blocks a pool has: as many as its bytes fill, and at least one. Takes constant time.
+    pub fn blocks(&self, pool: u32) -> u32
+        requires { IsSome (pool_at self.now pool) }
+        ensures chain { result ≡ length (chain_of self.now pool) }
+        ensures filled { result ≡ blocks_for (length (bytes_of self.now pool)) }
+    {
+        self.chains.len(pool as usize + 1)
+    }
+
+    /// How many blocks more a pool takes where so many bytes are appended. Takes constant time.
+    pub fn wanted(&self, pool: u32, more: usize) -> u32
+        requires stands { IsSome (pool_at self.now pool) }
+        requires few { more ≤ 4294967295 }
+        ensures wanted { result ≡ wanted self.now pool more }
+        ensures filled { length (chain_of self.now pool) ≡ blocks_for (length (bytes_of self.now pool)) }
+    {
+        let has = u64::from(self.blocks(pool));
+        let needs = (self.len(pool) + more as u64).saturating_sub(1) / 2048 + 1;
+        (needs - has) as u32
+    }
+
+    /// Makes a pool with no bytes, which takes one block, and answers its number: the least that no pool has.
+    ///
+    /// Answers `NoPool` exactly where no block is free, and nothing changes then. Takes time in proportion to the
+    /// number of pools.
+    pub fn new_pool(&mut self, owner: ThreadNo) -> Result<u32, NoPool>
+        requires { standing self.old.pools < length self.old.pools }
+        ensures refused { IsErr result ↔ (length self.old.free < 1) }
+        ensures told { IfErr result (λ e. (e.wanted ≡ 1) × (e.free ≡ length self.old.free)) }
+        ensures unchanged { OnErr result (self.new ≡ self.old) }
+        ensures vacant { IfOk result (λ pool. (pool < length self.old.pools) × (pool_at self.old pool ≡ None)) }
+        ensures made { IfOk result (λ pool. self.new ≡ with_pool self.old pool owner) }
+    {
+        if self.free() < 1 {
+            return Err(NoPool { wanted: 1, free: 0 });
+        }
+        let pool = vacant(&self.slots);
+        self.chains.pour(FREE, pool + 1, 1);
+        self.slots[pool] = Some(Slot { owner, len: 0 });
+        Ok(pool as u32)
+    }
+
+    /// Appends bytes to a pool, in its last block first and then in free blocks, as many as they need.
+    ///
+    /// Answers `NoPool` exactly where more are wanted than are free, and nothing changes then. Takes time in proportion to
+    /// the bytes.
+    pub fn append(&mut self, pool: u32, bytes: &[u8]) -> Result<(), NoPool>
+        requires stands { IsSome (pool_at self.old pool) }
+        requires few { length bytes.now ≤ 4294967295 }
+        ensures refused { IsErr result ↔ (length self.old.free < wanted self.old pool (length bytes.now)) }
+        ensures told { IfErr result
+            (λ e. (e.wanted ≡ wanted self.old pool (length bytes.now)) × (e.free ≡ length self.old.free)) }
+        ensures unchanged { OnErr result (self.new ≡ self.old) }
+        ensures appended { OnOk result (self.new ≡ appended self.old pool bytes.now) }
+    {
+        let wanted = self.wanted(pool, bytes.len());
+        let free = self.free();
+        if free < wanted {
+            return Err(NoPool { wanted, free });
+        }
+        let mut rest = bytes;
+        while !rest.is_empty() {
+            let room = 2048 - (self.len(pool) % 2048) as usize;
+            let (piece, behind) = rest.split_at(room.min(rest.len()));
+            self.put(pool, piece);
+            rest = behind;
+        }
+        Ok(())
+    }
+
+    /// Appends bytes that go into one block: the last one, or a free one where the last is full.
+    fn put(&mut self, pool: u32, piece: &[u8])
+        requires stands { IsSome (pool_at self.old pool) }
+        requires some { 0 < length piece.now }
+        requires fits { length (bytes_of self.old pool) % 2048 + length piece.now ≤ 2048 }
+        requires room { wanted self.old pool (length piece.now) ≤ length self.old.free }
+        ensures { self.new ≡ appended self.old pool piece.now }
+    {
+        let wanted = self.wanted(pool, piece.len());
+        let place = pool as usize;
+        let Some(slot) = self.slots[place] else {
+            unreachable!()
+        };
+        self.chains.pour(FREE, place + 1, wanted);
+        let last = self.chains.last(place + 1);
+        fill(
+            &mut self.blocks[last as usize],
+            (slot.len % 2048) as usize,
+            piece,
+        );
+        self.slots[place] = Some(Slot {
+            owner: slot.owner,
+            len: slot.len + piece.len() as u64,
+        });
+    }
+
+    /// The bytes appended to a pool, in order. Takes time and memory in proportion to the pool's blocks.
+    pub fn bytes(&self, alloc: Global, pool: u32) -> Result<Vec<u8>, AllocError>
+        requires { IsSome (pool_at self.now pool) }
+        ensures { IfOk result (λ v. v.items ≡ bytes_of self.now pool) }
+    {
+        let chain = pool as usize + 1;
+        let count = self.chains.len(chain);
+        let mut block = self.chains.first(chain);
+        let mut out = Vec::new(alloc);
+        for k in 0..count {
+            out.extend_from_slice(&self.blocks[block as usize])?;
+            if k + 1 < count {
+                block = self.chains.next(block);
+            }
+        }
+        out.truncate(self.len(pool) as usize);
+        Ok(out)
+    }
+
+    /// Ends a pool. Its blocks are free again, and its number may be given anew. Takes time in proportion to its blocks.
+    pub fn free_pool(&mut self, pool: u32)
+        requires { IsSome (pool_at self.old pool) }
+        ensures { self.new ≡ without_pool self.old pool }
+    {
+        let chain = pool as usize + 1;
+        self.chains.pour(chain, FREE, self.chains.len(chain));
+        self.slots[pool as usize] = None;
+    }
+}
+
+/// How many slots a pool has.
+fn standing_in(slots: &[Option<Slot>]) -> usize
+    ensures { result ≡ count_by (λ s. is_some s) slots.now }
+{
+    let mut standing = 0;
+    for slot in slots {
+        if slot.is_some() {
+            standing += 1;
+        }
+    }
+    standing
+}
+
+/// The first slot that no pool has.
+fn vacant(slots: &[Option<Slot>]) -> usize
+    requires { count_by (λ s. is_some s) slots.now < length slots.now }
+    ensures in_range { result < length slots.now }
+    ensures vacant { slice_index_or slots.now result None ≡ None }
+{
+    for (i, slot) in slots.iter().enumerate() {
+        if slot.is_none() {
+            return i;
+        }
+    }
+    unreachable!()
+}
+
+/// Writes bytes into a block from this place on.
+fn fill(block: &mut [u8; 2048], at: usize, piece: &[u8])
+    requires { at + length piece.now ≤ 2048 }
+    ensures { block.new ≡ take at block.old ++ (piece.now ++ drop (at + length piece.now) block.old) }
+{
+    block[at..at + piece.len()].copy_from_slice(piece);
+}
+
+#[cfg(test)]
+mod tests {
+    use super::*;
+    use std::test::Fail;
+
+    /// A new pool takes all of 16 blocks, and then neither a byte nor a pool is to be had until it is freed.
+    #[test]
+    fn fills_and_frees(rt: HostRuntime) -> Result<(), Fail> {
+        let mut pools = Pools::new(rt.alloc(), 16, 4)?;
+        assert!(rt; pools.standing() < pools.limit());
+        let pool = pools.new_pool(7)?;
+        let all = vec![in rt.alloc(); 9u8; 32768]?;
+        assert!(rt; pools.stands(pool));
+        pools.append(pool, &all)?;
+        assert_eq!(rt;
+            pools.append(pool, &[1]),
+            Err(NoPool { wanted: 1, free: 0 })
+        );
+        assert!(rt; pools.stands(pool));
+        assert_eq!(rt; pools.wanted(pool, 1), 1);
+        assert!(rt; pools.stands(pool));
+        assert_eq!(rt; pools.bytes(rt.alloc(), pool)?, all);
+        assert!(rt; pools.stands(pool));
+        assert_eq!(rt;
+            (pools.owner(pool), pools.len(pool), pools.blocks(pool)),
+            (7, 32768, 16)
+        );
+        assert!(rt; pools.standing() < pools.limit());
+        assert_eq!(rt; pools.new_pool(8), Err(NoPool { wanted: 1, free: 0 }));
+        assert!(rt; pools.stands(pool));
+        pools.free_pool(pool);
+        assert_eq!(rt;
+            (pools.free(), pools.standing(), pools.stands(pool)),
+            (16, 0, false)
+        );
+        assert!(rt; pools.standing() < pools.limit());
+        let next = pools.new_pool(8)?;
+        assert!(rt; pools.stands(next));
+        assert_eq!(rt; pools.owner(next), 8);
+        Ok(())
+    }
+}
