@@ -17,9 +17,17 @@ fn words_of(rt: &HostRuntime) -> io::Result<Vec<String>> {
 }
 
 fn main(rt: HostRuntime) -> ExitCode {
-    let Ok(words) = words_of(&rt) else {
-        let _ = println!(rt; "ids: 4 memory");
-        return ExitCode::from(Status::Memory.number());
+    let words = match words_of(&rt) {
+        Ok(words) => words,
+        // A word that is not UTF-8 is no command.
+        Err(error) if error.kind() == io::ErrorKind::InvalidData => {
+            let _ = println!(rt; "ids: 1 bad words");
+            return ExitCode::from(Status::BadWords.number());
+        }
+        Err(_) => {
+            let _ = println!(rt; "ids: 4 memory");
+            return ExitCode::from(Status::Memory.number());
+        }
     };
     let mut source = StdSource::new(rt.stdin());
     let sink = StdSink::new(rt.stdout());
