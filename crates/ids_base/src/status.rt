@@ -2,6 +2,8 @@
 ghost use Rattle.std.specs.Prelude.{◌≡◌};
 ghost use Rattle.ids_base.specs.Statuses.{status_number};
 
+use crate::position::LogPos;
+
 /// Why a script is none.
 #[derive(Clone, Copy, Debug, PartialEq, Eq, Drop)]
 pub enum Why {
@@ -9,6 +11,25 @@ pub enum Why {
     Cut,
     /// A byte is wrong.
     Wrong,
+}
+
+/// The first place where an image of the disk is damaged.
+#[derive(Clone, Copy, Debug, PartialEq, Eq, Drop)]
+pub enum Place {
+    /// The identity page.
+    Identity,
+    /// A checkpoint page, 1 or 2.
+    Checkpoint(u8),
+    /// An entry of the physical log, from 0.
+    Entry(u32),
+    /// A data page, from 1.
+    DataPage(u32),
+    /// A block of the logical log, by its number.
+    Block(u64),
+    /// A record of the logical log.
+    Record(LogPos),
+    /// A slot, by its row id.
+    Row(u32),
 }
 
 /// How a command ends; its number is the exit status of the program.
