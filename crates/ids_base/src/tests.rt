@@ -4,6 +4,8 @@ use crate::list::List;
 use crate::name::Name;
 use crate::plan::{DataStatement, Plan};
 use crate::reply::Reply;
+use crate::row_bytes::RowBytes;
+use crate::row_id::{RowId, slots_per_page};
 use crate::shape::{Column, Kind};
 use crate::value::Value;
 use std::test::Fail;
@@ -67,5 +69,18 @@ fn copies_are_given(rt: HostRuntime) -> Result<(), Fail> {
         return Err("another reply".into());
     };
     assert_eq!(rt; copied.len(), 1);
+    Ok(())
+}
+
+#[test]
+fn slots_of_pages(rt: HostRuntime) -> Result<(), Fail> {
+    for (length, slots) in [(8, 223), (359, 5), (800, 2), (1, 255)] {
+        assert_eq!(rt; slots_per_page(length), slots, "{length}");
+    }
+    let row = RowId { page: 2, slot: 1 };
+    assert_eq!(rt; row.number(), 513);
+    assert!(rt; RowId::from_number(513) == row);
+    let bytes = RowBytes::new(rt.alloc(), b"ab")?;
+    assert_eq!(rt; bytes.copy(rt.alloc())?.bytes(), b"ab".as_slice());
     Ok(())
 }
