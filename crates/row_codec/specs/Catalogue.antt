@@ -1,5 +1,5 @@
 -- The rows of the catalogue: one of 359 bytes for each table.
-use Rattle.std.specs.Prelude.{ℕ, ◌+◌, ◌-◌, ◌*◌, ◌^◌, ◌==◌, Bool, true, false, not, ◌&&◌, if◌then◌else◌, List, [], ◌∷◌, ◌++◌, length, take, drop, nat_le, nat_lt, nat_eq, replicate, Option, Some, None, zero, suc, get_or, take_while}
+use Rattle.std.specs.Prelude.{ℕ, ◌-◌, ◌*◌, ◌^◌, ◌==◌, Bool, not, ◌&&◌, if◌then◌else◌, List, [], ◌∷◌, ◌++◌, length, take, drop, nat_le, nat_lt, nat_eq, replicate, Option, Some, None, zero, suc, get_or, take_while}
 use Rattle.std.specs.List.{list_all, flat_map}
 use Rattle.std.specs.Int.{w16, w32, to_be_bytes, from_be_bytes}
 use Rattle.std.specs.Cmp.Lexicographic.{pointwise}
@@ -31,6 +31,10 @@ column_bytes c = name_bytes c.name ++ kind_bytes c.kind
 abbrev pub entry_bytes : Entry → List ℕ
 entry_bytes e = to_be_bytes w32 e.number ++ name_bytes e.name ++ length e.shape ∷ flat_map column_bytes e.shape ++ replicate (21 * (16 - length e.shape)) 0
 
+-- at most 16 columns, whose names are names
+abbrev pub are_columns : Shape → Bool
+are_columns shape = nat_le (length shape) 16 && list_all (λ (c : Column). is_name c.name) shape
+
 -- numbers of tables other than the catalogue are at least 100; names are names, and the shape is a good one
 abbrev pub is_entry : Entry → Bool
 is_entry e = (nat_le 100 e.number && nat_lt e.number (2 ^ 32)) && (is_name e.name && (list_all (λ (c : Column). is_name c.name) e.shape && is_shape e.shape))
@@ -43,9 +47,12 @@ kind_of (tag ∷ size) = if tag == 0 then Integer else Char (from_be_bytes w16 s
 abbrev pub name_of : List ℕ → Name
 name_of bytes = take_while (λ b. not (b == 0)) (take 18 bytes)
 
+abbrev pub column_of : List ℕ → Column
+column_of bytes = record { name = name_of bytes; kind = kind_of (take 3 (drop 18 bytes)) }
+
 abbrev pub columns_of : ℕ → List ℕ → Shape
 columns_of zero bytes = []
-columns_of (suc n) bytes = record { name = name_of bytes; kind = kind_of (take 3 (drop 18 bytes)) } ∷ columns_of n (drop 21 bytes)
+columns_of (suc n) bytes = column_of bytes ∷ columns_of n (drop 21 bytes)
 
 unfoldable pub read_entry : List ℕ → Entry
 read_entry bytes = record { number = from_be_bytes w32 (take 4 bytes); name = name_of (drop 4 bytes); shape = columns_of (get_or bytes 22 0) (drop 23 bytes) }

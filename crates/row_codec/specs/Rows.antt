@@ -1,5 +1,5 @@
 -- The bytes of a row, and the row that bytes say.
-use Rattle.std.specs.Prelude.{ℕ, ℤ, Bool, ◌-◌, if◌then◌else◌, List, [], ◌∷◌, ◌++◌, length, take, drop, nat_le, replicate, Option, Some, None}
+use Rattle.std.specs.Prelude.{ℕ, ℤ, ◌-◌, if◌then◌else◌, List, [], ◌∷◌, ◌++◌, length, take, drop, nat_le, replicate, Option, Some, None}
 use Rattle.std.specs.Int.{w32, to_be_bytes, from_be_bytes, cast_unsigned, cast_signed}
 use Rattle.ids_base.specs.declared.value.Value.{Value}
 use Rattle.ids_base.specs.declared.value.Value.TheVariants.{Int, Chars}
@@ -13,11 +13,15 @@ abbrev pub int_bytes : ℤ → List ℕ
 int_bytes n = to_be_bytes w32 (cast_unsigned w32 n)
 
 -- a text filled with spaces up to the column's size
+abbrev pub text_bytes : ℕ → List ℕ → List ℕ
+text_bytes size text = text ++ replicate (size - length text) 32
+
+-- the bytes of a value in its column
 abbrev pub value_bytes : Kind → Value → List ℕ
 value_bytes Integer (Int n) = int_bytes n
 value_bytes Integer (Chars text) = []
 value_bytes (Char size) (Int n) = []
-value_bytes (Char size) (Chars text) = text ++ replicate (size - length text) 32
+value_bytes (Char size) (Chars text) = text_bytes size text
 
 -- a row is its columns one after another
 abbrev pub row_bytes : Shape → Row → List ℕ
