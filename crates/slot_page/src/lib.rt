@@ -11,3 +11,4 @@ mod reading;
 mod tests;
 
 pub use page::Page;
+pub use reading::PAGE_BYTES;

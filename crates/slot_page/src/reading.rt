@@ -12,6 +12,12 @@ pub const PAGE_BYTES: usize = 2048;
 /// How many bytes stand before the first slot.
 pub const HEAD_BYTES: usize = 8;
 
+/// The number of the catalogue's table.
+const CATALOGUE: TableNo = 1;
+
+/// The least number of any other table.
+const FIRST_TABLE: TableNo = 100;
+
 /// Whether the bytes are a page. Looks at each byte once at most.
 pub fn is_page(bytes: &[u8; PAGE_BYTES]) -> bool
     ensures { IsTrue result ↔ IsPageBytes bytes.now }
@@ -20,7 +26,7 @@ pub fn is_page(bytes: &[u8; PAGE_BYTES]) -> bool
     if owner == 0 {
         return are_zero(bytes);
     }
-    if owner > 1 && owner < 100 {
+    if owner > CATALOGUE && owner < FIRST_TABLE {
         return false;
     }
     let length = length_in(bytes);

@@ -8,7 +8,7 @@ use Rattle.slot_page.proofs.HeadBytes.{AreBytes-from_fits}
 use Rattle.slot_page.proofs.Spelled.{IsPageBytes-spelled}
 use Rattle.slot_page.proofs.Accepted.{zeros_spell, zero_where_unowned, count_where_owned, zero_behind_count, slots_where_owned, accepted_owned}
 use Rattle.slot_page.proofs.reading.is_page.Goals as goal
-use Rattle.slot_page.proofs.reading.is_page.Goals.{else-owner-gt1-via-then-owner-gt1+else-owner-lt100, else-owner-gt1-via-else-owner-gt1, then-bytes-count-via-then-bytes-count, then-bytes-count-via-else-bytes-count+then-bytes-ne0}
+use Rattle.slot_page.proofs.reading.is_page.Goals.{else-owner-gt-CATALOGUE-via-then-owner-gt-CATALOGUE+else-owner-lt-FIRST_TABLE, else-owner-gt-CATALOGUE-via-else-owner-gt-CATALOGUE, then-bytes-count-via-then-bytes-count, then-bytes-count-via-else-bytes-count+then-bytes-ne0}
 
 pub returns-then-owner-eq0 : goal.returns-then-owner-eq0
 returns-then-owner-eq0 c = (
@@ -35,9 +35,9 @@ returns c =
     let size = c.length_in-length.ensures in
     let count : c.slots_per_page-count.result ≡ slot_count (length_of bytes) = c.slots_per_page-count.ensures ∙ ap slot_count size in
     let table : IsTable (owner_of bytes) =
-    elim c.else-owner-gt1.branch [
-      | else-owner-gt1-via-then-owner-gt1+else-owner-lt100 w ↦ inr (omega (arith, c.owner_in-owner.ensures, w.if-owner-lt100.false))
-      | else-owner-gt1-via-else-owner-gt1 w ↦ inl (omega (arith, some, c.owner_in-owner.ensures, w.if-owner-gt1.false))
+    elim c.else-owner-gt-CATALOGUE.branch [
+      | else-owner-gt-CATALOGUE-via-then-owner-gt-CATALOGUE+else-owner-lt-FIRST_TABLE w ↦ inr (omega (arith, c.owner_in-owner.ensures, w.if-owner-lt-FIRST_TABLE.false))
+      | else-owner-gt-CATALOGUE-via-else-owner-gt-CATALOGUE w ↦ inl (omega (arith, some, c.owner_in-owner.ensures, w.if-owner-gt-CATALOGUE.false))
     ] in
     let tested : c.are_slots.result ≡ are_slots (length_of bytes) (slot_count (length_of bytes)) (drop 8 bytes) =
     c.are_slots.ensures
