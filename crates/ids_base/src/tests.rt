@@ -50,11 +50,14 @@ fn copies_are_given(rt: HostRuntime) -> Result<(), Fail> {
     let mut more = List::new(alloc);
     more.push(Value::Int(8))?;
     row.append(more)?;
+    let row = row.share(alloc)?;
     assert_eq!(rt; row.len(), 3);
+    assert!(rt; !row.is_empty());
     let plan = Plan::Data(DataStatement::Insert {
         table: name.copy(),
         row: row.copy(alloc)?,
     });
+    let shape = shape.share(alloc)?;
     let create = Plan::Data(DataStatement::CreateTable { table: name, shape });
     assert!(rt; matches!(plan.copy(alloc)?, Plan::Data(DataStatement::Insert { .. })));
     assert!(rt;
@@ -65,7 +68,7 @@ fn copies_are_given(rt: HostRuntime) -> Result<(), Fail> {
     );
     let mut rows = List::new(alloc);
     rows.push(row)?;
-    let Reply::Selected(copied) = Reply::Selected(rows).copy(alloc)? else {
+    let Reply::Selected(copied) = Reply::Selected(rows.share(alloc)?).copy(alloc)? else {
         return Err("another reply".into());
     };
     assert_eq!(rt; copied.len(), 1);
