@@ -127,7 +127,7 @@ fn read_columns(alloc: Global, count: usize, bytes: &[u8]) -> Result<Option<Shap
         columns.push(column)?;
         rest = &rest[21..];
     }
-    Ok(Some(columns))
+    Ok(Some(columns.share(alloc)?))
 }
 
 // The first column of these bytes, unless its name is none.

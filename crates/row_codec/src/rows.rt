@@ -67,7 +67,7 @@ pub fn decode(alloc: Global, shape: &Shape, bytes: &[u8]) -> Result<Option<Row>,
         rest = behind;
     }
     if rest.is_empty() {
-        Ok(Some(row))
+        Ok(Some(row.share(alloc)?))
     } else {
         Ok(None)
     }

@@ -36,7 +36,7 @@ fn columns(alloc: Global) -> Result<Shape, Fail>
         name: name(b"c")?,
         kind: Kind::Char(4),
     })?;
-    Ok(columns)
+    Ok(columns.share(alloc)?)
 }
 
 // A number and the text `ab`.
@@ -46,7 +46,7 @@ fn row(alloc: Global, number: i32) -> Result<Row, Fail>
     let mut row = List::new(alloc);
     row.push(Value::Int(number))?;
     row.push(Value::Chars(Chars::new(alloc, b"ab")?))?;
-    Ok(row)
+    Ok(row.share(alloc)?)
 }
 
 fn bytes_of(alloc: Global, number: i32) -> Result<RowBytes, Fail>
