@@ -1,5 +1,5 @@
 -- Whether an item passes, by the place of the first one that does.
-use Rattle.std.proofs.Common.{◌≡◌, ◌∙◌, ◌↔◌, ℕ, zero, suc, ◌+◌, ◌<◌, ◌≤◌, ◌==◌, nat_lt, Bool, true, false, cond, not, IsTrue, List, [], ◌∷◌, length, get_or, refl, ap, sym, arith, Option, Some, None, is_some, ◌||◌, ◌&&◌}
+use Rattle.std.proofs.Common.{◌≡◌, ◌∙◌, ◌↔◌, ℕ, suc, ◌+◌, ◌<◌, ◌≤◌, ◌==◌, nat_lt, Bool, true, false, cond, not, IsTrue, List, [], ◌∷◌, length, get_or, refl, ap, sym, arith, Option, Some, is_some, ◌||◌, ◌&&◌}
 use Rattle.std.specs.List.{find, position_or_len}
 use Rattle.std.specs.List.Sorted.{IsSortedBy, IsSortedByKey, IsStableByKey}
 use Rattle.std.specs.Ordering.{nat_cmp, is_lt}
