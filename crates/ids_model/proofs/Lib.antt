@@ -1,7 +1,9 @@
 pub mod Answering
+pub mod CommitsShown
 pub mod EffectsStand
 pub mod EntryLengths
 mod Examples
+pub mod FrontsRecovered
 pub mod Holding
 pub mod Lent
 mod LogExamples

@@ -9,8 +9,8 @@ use Rattle.ids_model.specs.declared.effect.Effect.{Effect}
 use Rattle.ids_model.specs.declared.effect.Effect.TheVariants.{NewTable, Change}
 use Rattle.ids_model.specs.Tables.{Row, Shape, Name, Tables, row_at, apply, apply_all}
 use Rattle.ids_model.specs.Fits.{key_of}
-use Rattle.ids_model.specs.Slots.{Bytes, Own, Slots, own_at, slot_at, set_slot, set_own}
-use Rattle.ids_model.specs.Recovered.{State, nothing, run, seen, SaysTruly, AreApart, KeepsApart, AreOf, IsCommit}
+use Rattle.ids_model.specs.Slots.{Bytes, Own, Slots, Assigns, SameBeside, own_at, slot_at, set_slot, set_own, assign}
+use Rattle.ids_model.specs.Recovered.{all_taken_back, of_tx, recovery, State, nothing, run, seen, SaysTruly, AreApart, KeepsApart, AreOf, IsCommit}
 use Rattle.ids_model.specs.Stands.{catalogue, owner_of, IsCatalogued, Stands, MayOwn}
 use Rattle.ids_model.specs.Logged.{StandsWhole, IsFreeFor, AddsTable, Makes, MakesAll, IsQuiet, IsOpen, IsRecovered, Logged, log_of, tables_after, IsLogOf, ended, Leaves, Closes}
 
@@ -28,6 +28,14 @@ NothingStands = StandsWhole empty empty empty
 -- the state after two logs is that after the second, from the state after the first
 abbrev pub RunsJoin : Type 0
 RunsJoin = (s : State) (xs ys : List Entry) → run s (xs ++ ys) ≡ run (run s xs) ys
+
+-- what is seen after a log is one list of assignments, whatever the slots were
+abbrev pub RecoveryIsOneList : Type 0
+RecoveryIsOneList = (s : State) (log : List Entry) → seen (run s log) ≡ assign s.slots (recovery s.standing log)
+
+-- what stood before in the slots that recovery assigns does not matter
+abbrev pub RecoveryForgets : Type 0
+RecoveryForgets = (s : State) (slots : Slots) (log : List Entry) → SameBeside (recovery s.standing log) s.slots slots → seen (run s log) ≡ seen (run (record s { slots = slots }) log)
 
 -- a page without rows that gets an owner leaves what rows stand for
 abbrev pub OwnersAlone : Type 0
@@ -62,6 +70,10 @@ NewTablesStand = (own : Own) (slots : Slots) (T : Tables) (slot : ℕ) (bytes : 
     → StandsWhole own slots T → AddsTable own slots T slot bytes n shape
     → StandsWhole (set_own own (page_of slot) catalogue) (set_slot slots slot (Some bytes)) (apply T (NewTable n shape))
 
+-- BEGIN and CKPOINT change nothing
+abbrev pub NotesChangeNothing : Type 0
+NotesChangeNothing = (s : State) → ((tx session : ℕ) → run s (Begin tx session ∷ []) ≡ s) × ((named : List Named) → run s (Ckpoint named ∷ []) ≡ s)
+
 -- no record but COMMIT changes what is seen, where it says what stands in its slot and no two open transactions changed one slot
 abbrev pub OnlyCommitsAreSeen : Type 0
 OnlyCommitsAreSeen = (s : State) (e : Entry) → AreApart s.standing → SaysTruly s.slots e → ¬ IsCommit e → seen (run s (e ∷ [])) ≡ seen s
@@ -72,6 +84,12 @@ StandingStaysApart = (s : State) (e : Entry) → AreApart s.standing → KeepsAp
 
 abbrev pub OneIsApart : Type 0
 OneIsApart = (s : State) (tx : ℕ) → AreOf tx s.standing → AreApart s.standing
+
+-- after a COMMIT the slots that its transaction changed show what stands in them, and the others what they showed
+abbrev pub CommitsShow : Type 0
+CommitsShow = (s : State) (tx slot : ℕ) → AreApart s.standing
+    → (Assigns (all_taken_back (of_tx tx s.standing)) slot → slot_at (seen (run s (Commit tx ∷ []))) slot ≡ slot_at s.slots slot)
+    × (¬ Assigns (all_taken_back (of_tx tx s.standing)) slot → slot_at (seen (run s (Commit tx ∷ []))) slot ≡ slot_at (seen s) slot)
 
 -- after the COMMIT of the only open transaction nothing is open, and what stands is seen
 abbrev pub CommitsAreSeen : Type 0
@@ -85,13 +103,7 @@ RollbacksAreSeen = (s : State) (tx : ℕ) → AreOf tx s.standing → run s (Rol
 abbrev pub QuietAtStart : Type 0
 QuietAtStart = IsQuiet nothing empty
 
--- a checkpoint changes nothing, and a BEGIN opens a transaction
-abbrev pub CheckpointsStayQuiet : Type 0
-CheckpointsStayQuiet = (s : State) (T : Tables) (named : List Named) → IsQuiet s T → IsQuiet (run s (Ckpoint named ∷ [])) T
-
-abbrev pub CheckpointsStayOpen : Type 0
-CheckpointsStayOpen = (s : State) (tx : ℕ) (F T : Tables) (named : List Named) → IsOpen s tx F T → IsOpen (run s (Ckpoint named ∷ [])) tx F T
-
+-- a BEGIN opens a transaction
 abbrev pub BeginsOpen : Type 0
 BeginsOpen = (s : State) (T : Tables) (tx session : ℕ) → IsQuiet s T → IsOpen (run s (Begin tx session ∷ [])) tx T T
 
@@ -128,3 +140,11 @@ PrefixesRecover = (s : State) (T : Tables) (ts : List Logged) (front rest : List
 abbrev pub PrefixesClose : Type 0
 PrefixesClose = (s : State) (T : Tables) (ts : List Logged) (front rest : List Entry) → IsLogOf s T ts → log_of ts ≡ front ++ rest
     → Closes s T front (tables_after T (take (ended front) ts))
+
+-- what a log leaves is seen
+abbrev pub LeavesAreSeen : Type 0
+LeavesAreSeen = (s : State) (log : List Entry) (F : Tables) → Leaves s log F → StandsWhole (run s log).own (seen (run s log)) F
+
+-- so from each front of the log of transactions are recovered the tables after those that end in the front
+abbrev pub PrefixesAreRecovered : Type 0
+PrefixesAreRecovered = (ts : List Logged) (front rest : List Entry) → IsLogOf nothing empty ts → log_of ts ≡ front ++ rest → IsRecovered front (tables_after empty (take (ended front) ts))
