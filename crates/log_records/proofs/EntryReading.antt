@@ -122,3 +122,10 @@ entries_again [] rest fits = refl
 entries_again (e ∷ es) rest fits =
     let regrouped : entries_bytes (e ∷ es) ++ rest ≡ entry_bytes e ++ (entries_bytes es ++ rest) = ap (λ (x : List ℕ). x ++ rest) (flat_map-cons entry_bytes e es) ∙ append_assoc (entry_bytes e) (entries_bytes es) rest in
     ap (entries_at (suc (length es))) regrouped ∙ rw (entry_again e (entries_bytes es ++ rest) fits.0, entries_again es rest fits.1) refl
+
+pub one_reading_lem : (a b : Entry) (x y : List ℕ) → IsEntry a → IsEntry b → entry_bytes a ++ x ≡ entry_bytes b ++ y → (a ≡ b) × (x ≡ y)
+one_reading_lem a b x y fits fits' e =
+    let left : Entry × List ℕ = (a, x) in
+    let right : Entry × List ℕ = (b, y) in
+    let same : left ≡ right = same_Some left right (sym (entry_again a x fits) ∙ ap entry_at e ∙ entry_again b y fits') in
+    (ap (λ (p : Entry × List ℕ). p.0) same, ap (λ (p : Entry × List ℕ). p.1) same)

@@ -5,3 +5,6 @@ pub mod NamedFields
 pub mod Sizes
 pub mod EntryFields
 pub mod EntryReading
+pub mod EntryLoops
+pub mod Kept
+pub mod BodyReading

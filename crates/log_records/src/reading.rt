@@ -156,7 +156,9 @@ fn behind_names(count: u16, bytes: &[u8]) -> Option<&[u8]>
     let mut last = None;
     let mut rest = bytes;
     for _ in 0..count {
-        let (open_tx, after) = next(last, rest)?;
+        let Some((open_tx, after)) = next(last, rest) else {
+            return None;
+        };
         last = Some(open_tx.tx);
         rest = after;
     }
