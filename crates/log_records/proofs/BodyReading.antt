@@ -1,16 +1,18 @@
 -- Bodies: what is read is spelled so, and what is spelled is read.
 use Rattle.std.proofs.Common.{◌≡◌, ℕ, zero, suc, ◌+◌, ◌-◌, ◌*◌, ◌^◌, ◌<◌, ◌≤◌, Bool, true, false, cond, eqb, leb, List, [], ◌∷◌, ◌++◌, length, take, drop, Option, Some, None, refl, sym, ap, subst, ◌∙◌, append_assoc, length-append, arith}
-use Rattle.std.specs.Prelude.{◌&&◌, replicate, is_some, option_map}
+use Rattle.std.specs.Prelude.{◌&&◌, ◌≢◌, replicate, is_some, option_map, IfSome, IfNone}
 use Rattle.std.specs.List.{flat_map, list_all, AllByRecursion}
 use Rattle.std.specs.Int.{w16, w64}
-use Rattle.std.proofs.lemmas.Bool.{eqb-true, eq-eqb, leb-true, le-leb}
-use Rattle.std.proofs.lemmas.Option.{cond_some, same_Some}
+use Rattle.std.proofs.lemmas.Bool.{eqb-true, eq-eqb, ne_eqb, leb-true, le-leb, lt-leb}
+use Rattle.std.proofs.lemmas.Option.{cond_some, same_Some, none-some}
 use Rattle.std.proofs.lemmas.List.{append-nil, nil_from_length, take-append-drop, take_at, drop_at, length-drop, length-take, length-replicate}
 use Rattle.log_records.specs.Entries.{Entry}
 use Rattle.log_records.specs.Spelling.{AreBytes, number_bytes, entry_bytes, entry_size, IsEntry}
 use Rattle.log_records.specs.Reading.{◌>>=◌, number_at, entry_at, entries_at}
 use Rattle.log_records.specs.Bodies.{Body, IsBody, entries_bytes, entries_size, body_bytes, body_of, whole_at, records_at}
 use Rattle.log_records.proofs.Numbers.{AreBytes-take, both_some, both_true, guarded, Takes, Takes-then, wide16, wide64, number_takes, number_again}
+use Rattle.log_records.specs.Keeping.{kept, IsKept}
+use Rattle.log_records.proofs.Kept.{made, kept_is}
 use Rattle.log_records.proofs.Sizes.{length-entries_bytes, entries_size-low}
 use Rattle.log_records.proofs.EntryReading.{entries_take, entries_again}
 
@@ -116,3 +118,72 @@ body_again b body =
     let small : entries_size es < 2 ^ 16 = omega (arith, body.fits) in
     let few : length es < 2 ^ 16 = omega (arith, body.fits, entries_size-low es) in
     rw (number_again w64 (2 ^ 64) wide64 b.number (number_bytes w16 (entries_size es) ++ (number_bytes w16 (length es) ++ tail)) body.number, number_again w16 (2 ^ 16) wide16 (entries_size es) (number_bytes w16 (length es) ++ tail) small, number_again w16 (2 ^ 16) wide16 (length es) tail few, records_again b body) refl
+
+-- ---- why bytes are no records of a body
+
+pub too_long : (used count : ℕ) (bytes : List ℕ) → 2004 < used → records_at used count bytes ≡ None
+unfolding records_at
+too_long used count bytes lt = rw (lt-leb used 2004 lt) refl
+
+pub too_few : (used count : ℕ) (bytes : List ℕ) → used ≤ 2004 → count < 1 → records_at used count bytes ≡ None
+unfolding records_at
+too_few used count bytes room lt = rw (le-leb used 2004 room, lt-leb 1 count lt) refl
+
+pub other_length : (used count : ℕ) (bytes : List ℕ) → used ≤ 2004 → 1 ≤ count → length bytes ≢ 2035 → records_at used count bytes ≡ None
+unfolding records_at
+other_length used count bytes room some ne = rw (le-leb used 2004 room, le-leb 1 count some, ne_eqb (length bytes) 2035 ne) refl
+
+pub not_zero : (used count : ℕ) (bytes : List ℕ) → used ≤ 2004 → 1 ≤ count → length bytes ≡ 2035 → list_all (λ b. eqb b 0) (drop used bytes) ≡ false → records_at used count bytes ≡ None
+unfolding records_at
+not_zero used count bytes room some long tail = rw (le-leb used 2004 room, le-leb 1 count some, eq-eqb (length bytes) 2035 long, tail) refl
+
+pub looked_at : (used count : ℕ) (bytes : List ℕ) → used ≤ 2004 → 1 ≤ count → length bytes ≡ 2035 → list_all (λ b. eqb b 0) (drop used bytes) ≡ true → records_at used count bytes ≡ whole_at count (take used bytes)
+unfolding records_at
+looked_at used count bytes room some long tail = rw (le-leb used 2004 room, le-leb 1 count some, eq-eqb (length bytes) 2035 long, tail) refl
+
+pub none_is : {A : Type 0} (o : Option A) → is_some o ≡ false → o ≡ None
+none_is None e = refl
+none_is (Some x) e = absurd cc
+
+some_is : {A : Type 0} (o : Option A) → is_some o ≡ true → (x : A) × (o ≡ Some x)
+some_is None e = absurd cc
+some_is (Some x) e = (x, refl)
+
+-- a body keeps what was read
+pub record Accepted (used count : ℕ) (bytes padded : List ℕ) : Type 0 where
+  pub keeps : IsKept count used padded
+  pub read : whole_at count (take used bytes) ≡ Some (kept count used padded)
+
+pub accepts : (used count : ℕ) (bytes padded : List ℕ) → AreBytes bytes → used ≤ 2004 → is_some (whole_at count (take used bytes)) ≡ true → length padded ≡ 2004 → take used padded ≡ take used bytes → Accepted used count bytes padded
+accepts used count bytes padded fits room found long same =
+    let x = some_is (whole_at count (take used bytes)) found in
+    let w = whole_takes count (take used bytes) x.0 (AreBytes-take used bytes fits) x.1 in
+    let spelled : take used padded ≡ entries_bytes x.0 = same ∙ w.0 in
+    record { keeps = made count used padded x.0 room long w.1 w.2 spelled; read = x.1 ∙ ap (λ (es : List Entry). Some es) (sym (kept_is count used padded x.0 w.1 w.2 spelled)) }
+
+pub found_is : (bytes : List ℕ) (o : Option Body) → AreBytes bytes → o ≡ body_of bytes → IfSome o (λ b. IsBody b × (bytes ≡ body_bytes b))
+found_is bytes None fits e = tt
+found_is bytes (Some b) fits e = body_takes bytes b fits (sym e)
+
+pub refused_is : (bytes : List ℕ) (o : Option Body) → o ≡ body_of bytes → IfNone o ((b : Body) → IsBody b → bytes ≢ body_bytes b)
+refused_is bytes None e = λ b body same. none-some b (e ∙ ap body_of same ∙ body_again b body)
+refused_is bytes (Some b) e = tt
+
+regroup : (a b c d e : List ℕ) → (((a ++ b) ++ c) ++ d) ++ e ≡ a ++ (b ++ (c ++ (d ++ e)))
+regroup a b c d e = simp append_assoc
+
+-- the bytes of a body, written one after another
+pub written : (b : Body) (f0 f1 f2 f3 : List ℕ) (r0 r1 r2 r3 rest : ℕ) (tail : List ℕ) → take r0 f0 ≡ number_bytes w64 b.number → take r1 f1 ≡ take r0 f0 ++ number_bytes w16 (entries_size b.entries)
+    → take r2 f2 ≡ take r1 f1 ++ number_bytes w16 (length b.entries) → take r3 f3 ≡ take r2 f2 ++ entries_bytes b.entries → rest ≡ 2035 - entries_size b.entries → tail ≡ replicate rest 0
+    → take r3 f3 ++ tail ≡ body_bytes b
+unfolding body_bytes
+written b f0 f1 f2 f3 r0 r1 r2 r3 rest tail e0 e1 e2 e3 er et =
+    let n0 = number_bytes w64 b.number in
+    let n1 = number_bytes w16 (entries_size b.entries) in
+    let n2 = number_bytes w16 (length b.entries) in
+    let front : take r3 f3 ≡ ((n0 ++ n1) ++ n2) ++ entries_bytes b.entries =
+        e3 ∙ ap (λ (t : List ℕ). t ++ entries_bytes b.entries) (e2 ∙ ap (λ (t : List ℕ). t ++ n2) (e1 ∙ ap (λ (t : List ℕ). t ++ n1) e0)) in
+    let zeros_are : tail ≡ replicate (2035 - entries_size b.entries) 0 = et ∙ ap (λ (n : ℕ). replicate n 0) er in
+    ap (λ (t : List ℕ). t ++ tail) front
+    ∙ ap (λ (t : List ℕ). (((n0 ++ n1) ++ n2) ++ entries_bytes b.entries) ++ t) zeros_are
+    ∙ regroup n0 n1 n2 (entries_bytes b.entries) (replicate (2035 - entries_size b.entries) 0)

@@ -1,5 +1,5 @@
 -- Records and lists of them: what is read is spelled so, and what is spelled is read, whatever follows.
-use Rattle.std.proofs.Common.{◌≡◌, ℕ, zero, suc, ◌+◌, ◌*◌, ◌^◌, ◌<◌, ◌≤◌, Bool, true, false, cond, eqb, List, [], ◌∷◌, ◌++◌, length, Option, Some, None, refl, sym, ap, subst, ◌∙◌, append_assoc, length-append, arith}
+use Rattle.std.proofs.Common.{◌≡◌, ℕ, zero, suc, ◌+◌, ◌-◌, ◌*◌, ◌^◌, ◌<◌, ◌≤◌, Bool, true, false, cond, eqb, List, [], ◌∷◌, ◌++◌, length, take, Option, Some, None, refl, sym, ap, subst, ◌∙◌, append_assoc, length-append, arith}
 use Rattle.std.specs.List.{flat_map, AllByRecursion}
 use Rattle.std.specs.Int.{w16, w64}
 use Rattle.std.proofs.lemmas.Bool.{eqb-true, eq-eqb}
@@ -11,7 +11,9 @@ use Rattle.log_records.specs.Entries.{Named, Entry, Begin, Commit, Rollback, HIn
 use Rattle.log_records.specs.Spelling.{AreBytes, number_bytes, kind_of, tx_of, fields_bytes, entry_bytes, entry_size, IsEntry}
 use Rattle.log_records.specs.Kinds.{kind_code, code_kind}
 use Rattle.log_records.specs.Reading.{◌>>=◌, number_at, kind_at, fields_at, tail_at, entry_at, entries_at}
+use Rattle.std.proofs.lemmas.List.{take_at}
 use Rattle.log_records.specs.Bodies.{entries_bytes}
+use Rattle.log_records.specs.Taken.{IsTaken, IsNoRecord}
 use Rattle.log_records.proofs.Numbers.{both_some, Takes, Takes-then, wide16, wide64, number_takes, number_again}
 use Rattle.log_records.proofs.Sizes.{tail_bytes, length-tail_bytes, entry_size-high}
 use Rattle.log_records.proofs.EntryFields.{entry_kind, AreFields, fields_take, fields_again}
@@ -129,3 +131,17 @@ one_reading_lem a b x y fits fits' e =
     let right : Entry × List ℕ = (b, y) in
     let same : left ≡ right = same_Some left right (sym (entry_again a x fits) ∙ ap entry_at e ∙ entry_again b y fits') in
     (ap (λ (p : Entry × List ℕ). p.0) same, ap (λ (p : Entry × List ℕ). p.1) same)
+
+-- what was taken from the front
+pub taken_is : (bytes : List ℕ) (e : Entry) (rest : List ℕ) → AreBytes bytes → entry_at bytes ≡ Some (e, rest) → IsTaken bytes e (length bytes - length rest)
+taken_is bytes e rest fits read =
+    let t = entry_takes bytes e rest fits read in
+    let long : length (entry_bytes e) ≡ length bytes - length rest = omega (arith, ap length t.0.parts, length-append (entry_bytes e) rest) in
+    record { within = omega arith; entry = t.1; spelled = ap (take (length bytes - length rest)) t.0.parts ∙ take_at (entry_bytes e) rest (length bytes - length rest) long }
+
+pub rest_within : (bytes : List ℕ) (e : Entry) (rest : List ℕ) → AreBytes bytes → entry_at bytes ≡ Some (e, rest) → length rest ≤ length bytes
+rest_within bytes e rest fits read =
+    let t = entry_takes bytes e rest fits read in omega (arith, ap length t.0.parts, length-append (entry_bytes e) rest)
+
+pub no_record : (bytes : List ℕ) → entry_at bytes ≡ None → IsNoRecord bytes
+no_record bytes e f rest entry same = none-some (f, rest) (sym e ∙ ap entry_at same ∙ entry_again f rest entry)

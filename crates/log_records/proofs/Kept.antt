@@ -62,3 +62,15 @@ appends count used old new e k entry room long front =
     let each = AllByRecursion-push IsEntry es e k.each entry in
     let spelled : take (used + entry_size e) new ≡ entries_bytes (es ++ e ∷ []) = front ∙ ap (λ (t : List ℕ). t ++ entry_bytes e) k.spelled ∙ sym (entries_bytes-push es e) in
     record { keeps = made (count + 1) (used + entry_size e) new (es ++ e ∷ []) room long counted each spelled; after = kept_is (count + 1) (used + entry_size e) new (es ++ e ∷ []) counted each spelled }
+
+-- what a body keeps after a record was written behind the others
+pub record AppendsAt (count used size : ℕ) (old : List ℕ) (e : Entry) (new : List ℕ) : Type 0 where
+  pub keeps : IsKept (count + 1) (used + size) new
+  pub after : kept (count + 1) (used + size) new ≡ kept count used old ++ e ∷ []
+
+pub appended : (count used size end : ℕ) (old new : List ℕ) (e : Entry) → IsKept count used old → IsEntry e → size ≡ entry_size e → used + size ≤ 2004 → length new ≡ length old → end ≡ used + entry_size e
+    → take end new ≡ take used old ++ entry_bytes e → AppendsAt count used size old e new
+appended count used size end old new e k entry size_is room long end_is front =
+    let at_end : take (used + entry_size e) new ≡ take used old ++ entry_bytes e = subst (λ (n : ℕ). take n new ≡ take used old ++ entry_bytes e) end_is front in
+    let a = appends count used old new e k entry (omega (arith, room, size_is)) (omega (arith, long, k.long)) at_end in
+    subst (λ (n : ℕ). AppendsAt count used n old e new) (sym size_is) (record { keeps = a.keeps; after = a.after })

@@ -8,3 +8,4 @@ pub mod EntryReading
 pub mod EntryLoops
 pub mod Kept
 pub mod BodyReading
+pub mod ListLoops

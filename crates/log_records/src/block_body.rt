@@ -1,7 +1,7 @@
 //! The body of a log block: its number and its records, which it keeps as their bytes.
-ghost use Rattle.std.specs.Prelude.{◌≡◌, ◌+◌, ◌≤◌, ◌++◌, ◌↔◌, [], ◌∷◌, length, take, map, option_map, is_some, IsTrue, IfOk};
+ghost use Rattle.std.specs.Prelude.{◌≡◌, ◌==◌, ◌+◌, ◌≤◌, ◌++◌, ◌↔◌, [], ◌∷◌, length, take, map, option_map, is_some, IsTrue, IfOk};
 ghost use Rattle.std.specs.Bool.{OnTrue, OnFalse};
-ghost use Rattle.std.specs.List.{AllByRecursion};
+ghost use Rattle.std.specs.List.{AllByRecursion, list_all};
 ghost use Rattle.log_records.specs.Bodies.{entries_size, entries_bytes, records_at, whole_at};
 ghost use Rattle.log_records.specs.Says.{entry_of};
 ghost use Rattle.log_records.specs.Spelling.{entry_size, IsEntry};
@@ -136,7 +136,6 @@ impl BlockBody {
     // Puts a record for which there is room.
     fn append(&mut self, entry: &Record, size: u16)
         requires size { size ≡ entry_size (entry_of entry.now) }
-        requires entry { IsEntry (entry_of entry.now) }
         requires room { entries_size self.old.entries + size ≤ 2004 }
         ensures { self.new ≡ record self.old { entries = self.old.entries ++ entry_of entry.now ∷ [] } }
     {
@@ -153,7 +152,7 @@ impl BlockBody {
             return None;
         }
         let (records, zeros) = bytes.split_at(used as usize);
-        if !zeros.iter().all(|b| *b == 0) || !are_records(count, records) {
+        if !are_zero(zeros) || !are_records(count, records) {
             return None;
         }
         Some(BlockBody {
@@ -179,16 +178,25 @@ fn are_records(count: u16, bytes: &[u8]) -> bool
     rest.is_empty()
 }
 
+fn are_zero(bytes: &[u8]) -> bool
+    ensures { result ≡ list_all (λ b. b == 0) bytes.now }
+{
+    bytes.iter().all(|b| *b == 0)
+}
+
 // The bytes, with others behind them.
 fn padded(bytes: &[u8]) -> [u8; 2004]
     requires { length bytes.now ≤ 2004 }
-    ensures { take (length bytes.now) result ≡ bytes.now }
+    ensures front { take (length bytes.now) result ≡ bytes.now }
+    ensures long { length result ≡ 2004 }
 {
     let mut all = blank();
     all[..bytes.len()].copy_from_slice(bytes);
     all
 }
 
-fn blank() -> [u8; 2004] {
+fn blank() -> [u8; 2004]
+    ensures { length result ≡ 2004 }
+{
     [0; 2004]
 }

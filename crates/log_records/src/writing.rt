@@ -5,7 +5,7 @@ ghost use Rattle.std.specs.List.{flat_map};
 ghost use Rattle.ids_base.specs.RowIds.{row_number};
 ghost use Rattle.log_records.specs.Naming.{named_of};
 ghost use Rattle.log_records.specs.Says.{entry_of};
-ghost use Rattle.log_records.specs.Spelling.{number_bytes, kind_of, tx_of, entry_size, place_bytes, row_bytes, named_bytes, fields_bytes, entry_bytes, AreBytes, IsChange, IsEntry};
+ghost use Rattle.log_records.specs.Spelling.{number_bytes, kind_of, tx_of, entry_size, place_bytes, row_bytes, named_bytes, fields_bytes, entry_bytes, AreBytes, IsChange, AreNamed, IsEntry};
 
 use crate::named::NamedList;
 use crate::record::Record;
@@ -123,11 +123,12 @@ fn put_list(into: &mut [u8], at: usize, named: &NamedList) -> usize
     requires { at + 2 + 18 * length named.now ≤ length into.old }
     ensures end { result ≡ at + 2 + 18 * length named.now }
     ensures front { take result into.new ≡ take at into.old ++ (number_bytes w16 (length named.now) ++ flat_map named_bytes named.now) }
+    ensures named { AreNamed named.now }
 {
     let list = named.as_slice();
-    let mut at = put_u16(into, at, list.len() as u16);
+    let mut next = put_u16(into, at, list.len() as u16);
     for open_tx in list {
-        at = put_open_tx(into, at, *open_tx);
+        next = put_open_tx(into, next, *open_tx);
     }
-    at
+    next
 }
