@@ -14,5 +14,7 @@ mod parts;
 mod reading;
 pub mod record;
 pub mod taking;
+#[cfg(test)]
+mod tests;
 mod updated;
 mod writing;

@@ -78,13 +78,24 @@ fn put_fields(into: &mut [u8], at: usize, entry: &Record) -> usize
     match entry {
         Record::Begin { session, .. } => put_u32(into, at, *session),
         Record::Commit { .. } | Record::Rollback { .. } => at,
-        Record::HInsert { table, row, after, .. } => {
-            put_change(into, at, *table, *row, after.bytes())
-        }
-        Record::HDelete { table, row, before, .. } => {
-            put_change(into, at, *table, *row, before.bytes())
-        }
-        Record::HUpdate { table, row, rows, .. } => {
+        Record::HInsert {
+            table,
+            row,
+            after,
+            ..
+        } => { put_change(into, at, *table, *row, after.bytes()) }
+        Record::HDelete {
+            table,
+            row,
+            before,
+            ..
+        } => { put_change(into, at, *table, *row, before.bytes()) }
+        Record::HUpdate {
+            table,
+            row,
+            rows,
+            ..
+        } => {
             let at = put_change(into, at, *table, *row, rows.before.bytes());
             put_bytes(into, at, rows.after.bytes())
         }
