@@ -1,5 +1,5 @@
 -- A body says one layout, or one checkpoint.
-use Rattle.std.proofs.Common.{◌≡◌, ◌<◌, ◌^◌, ℕ, List, take, drop, get_or, Bool, true, false, refl, sym, ◌∙◌, ap, subst, arith, Some, None, if◌then◌else◌}
+use Rattle.std.proofs.Common.{◌≡◌, ◌<◌, ◌^◌, ℕ, List, take, drop, get_or, Bool, true, false, refl, sym, ◌∙◌, ap, arith, Some, None, if◌then◌else◌}
 use Rattle.std.specs.Int.{w16, w32, w64, to_be_bytes, from_be_bytes}
 use Rattle.std.proofs.lemmas.Nat.{from_be_bytes-to_be_bytes_2, from_be_bytes-to_be_bytes_4, from_be_bytes-to_be_bytes_8}
 use lib.Dec.{eqb}

@@ -1,8 +1,8 @@
 -- Writing the checkpoint page that comes next.
-use Rattle.std.proofs.Common.{◌≡◌, ◌⊎◌, inl, inr, ◌<◌, ◌≤◌, ℕ, ◌+◌, ◌-◌, ◌%◌, List, Some, None, IsTrue, refl, sym, ◌∙◌, ap, subst, arith}
+use Rattle.std.proofs.Common.{◌≡◌, ◌⊎◌, inl, inr, ◌≤◌, ℕ, ◌+◌, ◌-◌, List, Some, None, IsTrue, refl, sym, ◌∙◌, subst, arith}
 use Rattle.ids_outside.specs.Images.{Image}
 use Rattle.gate_blocks.specs.Gates.{Apart}
-use Rattle.chunk_map.specs.Checkpoints.{root_page, root_block, checkpoint_body, page_of, FitsPage, IsCheckpoint, IsPage, IsClosed, IsOlder, IsNewest, NoCheckpoint, IsNext}
+use Rattle.chunk_map.specs.Checkpoints.{root_page, root_block, checkpoint_body, page_of, FitsPage, IsPage, IsOlder, IsNewest, IsNext}
 use Rattle.chunk_map.specs.Rewrites.{Rewrites, SamePages, SameNewest, Renews}
 use Rattle.chunk_map.specs.declared.checkpoint.CheckpointPage.{CheckpointPage}
 
@@ -33,7 +33,7 @@ older_same : (c n : ℕ) (x y : Image) → root_block c y ≡ root_block c x →
 older_same c n x y same (inl closed) = inl (same ∙ closed)
 older_same c n x y same (inr older) = inr (older.0, page_same c older.0 x y same older.1, older.2)
 
-newest_same : (p : CheckpointPage) (x y : Image) → SamePages x y → IsNewest p x → IsNewest p y
+pub newest_same : (p : CheckpointPage) (x y : Image) → SamePages x y → IsNewest p x → IsNewest p y
 newest_same p x y same newest = record {
   page = page_same (page_of p.number) p x y (one_same (page_of p.number) x y (page_cases p.number) same) newest.page;
   other = older_same (3 - page_of p.number) p.number x y (one_same (3 - page_of p.number) x y (other_cases p.number) same) newest.other;

@@ -1,7 +1,6 @@
 -- Images that are formatted, and what the calls answer of others.
 use Rattle.std.specs.Prelude.{◌≡◌, ◌⊎◌, ℕ, List, take, codes, Some}
 use Rattle.ids_outside.specs.Images.{Image, pages_of}
-use Rattle.ids_base.specs.declared.status.Place.{Place}
 use Rattle.ids_base.specs.declared.status.Place.TheVariants.{Identity, Checkpoint}
 use Rattle.chunk_map.specs.Layouts.{IsLayout, HasPages, identity_body}
 use Rattle.chunk_map.specs.Checkpoints.{root_block, NoCheckpoint, IsFirstDamaged}

@@ -1,5 +1,5 @@
 -- How a disk is laid out, and the bytes of the identity page.
-use Rattle.std.specs.Prelude.{◌≡◌, ◌≤◌, ℕ, ◌+◌, ◌*◌, List, ◌++◌, replicate, codes}
+use Rattle.std.specs.Prelude.{◌≤◌, ℕ, ◌+◌, ◌*◌, List, ◌++◌, replicate, codes}
 use Rattle.std.specs.Int.{w16, w32, to_be_bytes}
 use Rattle.chunk_map.specs.declared.layout.Layout.{Layout}
 

@@ -2,8 +2,7 @@
 use Rattle.std.specs.Prelude.{◌≡◌, ◌⊎◌, ℕ, ◌-◌, List, Some, None}
 use Rattle.ids_outside.specs.Images.{Image, SameBut}
 use Rattle.gate_blocks.specs.Gates.{RegionPlaces}
-use Rattle.chunk_map.specs.Layouts.{identity_body}
-use Rattle.chunk_map.specs.Checkpoints.{root_page, root_block, checkpoint_body, page_of, IsNewest, NoCheckpoint}
+use Rattle.chunk_map.specs.Checkpoints.{root_page, root_block, page_of, IsNewest, NoCheckpoint}
 use Rattle.chunk_map.specs.declared.checkpoint.CheckpointPage.{CheckpointPage}
 
 -- a page that is being rewritten is as it was, closed, or has its new body; and all else is as it was

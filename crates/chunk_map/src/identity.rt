@@ -138,9 +138,9 @@ fn has_mark(body: &[u8; 2047]) -> bool
     body[0..4] == MARK[0..4]
 }
 
-// Whether the chunks have the pages that a layout names.
-fn has_pages<D: Disk>(disk: &D, layout: &Layout) -> bool
-    requires { layout.now.chunks ≤ 8 }
+/// Whether a disk's chunks have the pages that a layout names.
+pub fn has_pages<D: Disk>(disk: &D, layout: &Layout) -> bool
+    requires { IsLayout layout.now }
     ensures { IsTrue result ↔ HasPages (D.size disk.now) layout.now }
 {
     if disk.pages(0) < layout.root {

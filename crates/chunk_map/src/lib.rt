@@ -8,10 +8,14 @@ mod bytes;
 mod checkpoint;
 mod fault;
 mod identity;
+pub mod laws;
 mod layout;
 mod root_page;
 
 pub use checkpoint::{CheckpointPage, newest, write_next};
 pub use fault::MapFault;
-pub use identity::{read_identity, write_identity};
+pub use identity::{has_pages, read_identity, write_identity};
 pub use layout::Layout;
+
+#[cfg(test)]
+mod tests;

@@ -1,4 +1,4 @@
-use Rattle.std.proofs.Common.{◌+◌, ◌-◌, length, arith}
+use Rattle.std.proofs.Common.{arith}
 use Rattle.chunk_map.proofs.Numbers.{put_behind}
 use Rattle.chunk_map.proofs.bytes.put.Goals as goal
 

@@ -1,5 +1,5 @@
-use Rattle.std.proofs.Common.{◌≡◌, ◌∙◌, ap, Some, None}
-use Rattle.chunk_map.specs.Checkpoints.{page_of, root_block, checkpoint_body, IsPage}
+use Rattle.std.proofs.Common.{◌≡◌, ◌∙◌, ap, Some}
+use Rattle.chunk_map.specs.Checkpoints.{page_of, root_block, checkpoint_body}
 use Rattle.chunk_map.specs.declared.checkpoint.CheckpointPage.{CheckpointPage}
 use Rattle.chunk_map.proofs.Bodies.{same_checkpoint, block_where}
 use Rattle.chunk_map.proofs.checkpoint.look_at.Goals as goal

@@ -1,9 +1,6 @@
-use Rattle.std.proofs.Common.{◌≡◌, ◌∙◌, ◌-◌, ◌<◌, Some, List, ℕ, sym, ap, subst, arith}
+use Rattle.std.proofs.Common.{◌≡◌, ◌∙◌, ◌-◌, Some, List, ℕ, sym, ap, arith}
 use Rattle.std.proofs.lemmas.Result.{on_ok_weaker}
-use Rattle.gate_blocks.specs.Gates.{RegionPlaces}
-use Rattle.ids_outside.specs.Images.{SameBut}
 use Rattle.chunk_map.specs.Checkpoints.{root_page, root_block, checkpoint_body, page_of}
-use Rattle.chunk_map.specs.Rewrites.{Rewrites}
 use Rattle.chunk_map.proofs.Renewing.{step_as, next_same, other_apart, renews, is_newest}
 use Rattle.chunk_map.proofs.checkpoint.write_next.Goals as goal
 

@@ -1,4 +1,4 @@
-use Rattle.std.proofs.Common.{◌≡◌, ◌∙◌, ◌<◌, ◌^◌, ◌++◌, [], List, ℕ, codes, refl, ap, arith, subst, sym}
+use Rattle.std.proofs.Common.{◌≡◌, ◌∙◌, ◌<◌, ◌^◌, ◌++◌, List, ℕ, codes, refl, ap, arith, subst, sym}
 use Rattle.std.specs.Int.{w16, w32, to_be_bytes}
 use lib.Pointwise.{bytes_decides}
 use mathlib.Core.Bool.{true≢false}

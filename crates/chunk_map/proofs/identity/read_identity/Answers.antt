@@ -1,6 +1,6 @@
-use Rattle.std.proofs.Common.{◌≡◌, ◌∙◌, ◌≤◌, ◌*◌, ◌/◌, ℕ, Some, None, length, sym, ap, subst, arith, true, IsTrue}
+use Rattle.std.proofs.Common.{◌≡◌, ◌∙◌, ◌≤◌, ◌*◌, ◌/◌, ℕ, Some, sym, subst, arith}
 use mathlib.Core.Bool.{true≢false}
-use Rattle.ids_outside.specs.Images.{pages_of, chunk_of}
+use Rattle.ids_outside.specs.Images.{pages_of}
 use Rattle.chunk_map.specs.Layouts.{HasPages, identity_body}
 use Rattle.chunk_map.specs.Checkpoints.{root_block, NoCheckpoint}
 use Rattle.chunk_map.specs.declared.layout.Layout.{Layout}

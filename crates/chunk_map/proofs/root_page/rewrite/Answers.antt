@@ -1,9 +1,8 @@
-use Rattle.std.proofs.Common.{◌≡◌, ◌⊎◌, inl, inr, ◌∙◌, ◌+◌, ◌≤◌, ◌<◌, Some, None, List, ℕ, sym, ap, subst, arith}
+use Rattle.std.proofs.Common.{◌≡◌, inl, inr, ◌∙◌, Some, List, ℕ, ap, subst, arith}
 use Rattle.ids_outside.specs.Stops.{Leaves}
 use Rattle.gate_blocks.specs.Gates.{body, Opening}
 use Rattle.gate_blocks.specs.declared.region.Region.{Region}
-use Rattle.chunk_map.specs.Checkpoints.{root_page, root_block}
-use Rattle.chunk_map.specs.Rewrites.{Rewrites}
+use Rattle.chunk_map.specs.Checkpoints.{root_page}
 use Rattle.chunk_map.proofs.root_page.rewrite.Goals as goal
 
 pub returns-clause-any_moment : goal.returns-clause-any_moment

@@ -1,4 +1,4 @@
-use Rattle.std.proofs.Common.{◌≡◌, ◌∙◌, ◌+◌, ◌<◌, sym, ap, arith, [], ◌∷◌}
+use Rattle.std.proofs.Common.{◌∙◌, sym, ap, arith, [], ◌∷◌}
 use Rattle.std.proofs.lemmas.Result.{on_ok_weaker}
 use Rattle.gate_blocks.specs.Gates.{body, HasBodies}
 use Rattle.gate_blocks.specs.declared.region.Region.{Region}
