@@ -1,13 +1,12 @@
 -- What closing the gates of places that are not retained leaves.
-use Rattle.std.proofs.Common.{◌≡◌, ◌⊎◌, inl, inr, ℕ, ◌+◌, ◌-◌, ◌%◌, ◌<◌, ◌≤◌, List, [], length, Option, Some, None, refl, sym, ◌∙◌, ap, subst, arith, min}
-use Rattle.std.proofs.lemmas.List.{append-nil}
+use Rattle.std.proofs.Common.{◌≡◌, ◌⊎◌, inl, inr, ℕ, ◌+◌, ◌-◌, ◌%◌, ◌<◌, ◌≤◌, List, [], None, sym, ◌∙◌, ap, subst, arith, min}
 use Rattle.std.specs.Prelude.{◌++◌}
 use Rattle.ids_outside.specs.Images.{Image, SameBut}
 use Rattle.gate_blocks.specs.Gates.{block, Within, Closing, RegionPlaces}
 use Rattle.gate_blocks.specs.declared.region.Region.{Region}
 use Rattle.log_records.specs.Bodies.{Body}
 use Rattle.log_files.specs.Log.{ring_place, body_at, bodies_from, tail_from}
-use Rattle.log_files.specs.Files.{Files, IsRing, HasFiles, KeepsRetained, Loses, Clears, all_free}
+use Rattle.log_files.specs.Files.{Files, IsRing, HasFiles, Loses, Clears, all_free}
 use Rattle.log_files.proofs.Rings.{mod_next, mod_wrap, mod_turn, mod_below}
 use Rattle.log_files.proofs.Steps.{Blocks}
 use Rattle.log_files.proofs.Counted.{same_body, no_body, same_place}

@@ -1,5 +1,5 @@
 -- The log files: which blocks are retained, and which places are closed and free to be taken.
-use Rattle.std.specs.Prelude.{◌<◌, ◌≡◌, ◌⊎◌, ℕ, suc, ◌+◌, ◌-◌, ◌*◌, ◌^◌, ◌≤◌, List, [], ◌∷◌, ◌++◌, length, take, Option, Some, None, slice_index_or}
+use Rattle.std.specs.Prelude.{◌<◌, ◌≡◌, ◌⊎◌, ℕ, suc, ◌+◌, ◌-◌, ◌*◌, ◌^◌, ◌≤◌, List, [], ◌∷◌, ◌++◌, length, take, Some, None, slice_index_or}
 use Rattle.ids_outside.specs.Images.{Image, SameBut}
 use Rattle.gate_blocks.specs.Gates.{block, RegionPlaces}
 use Rattle.gate_blocks.specs.declared.region.Region.{Region}

@@ -1,12 +1,10 @@
-use Rattle.std.proofs.Common.{◌≡◌, ◌⊎◌, inl, inr, ◌<◌, ◌≤◌, ◌+◌, ◌-◌, ◌++◌, ℕ, List, [], length, take, drop, Some, sym, subst, ap, ◌∙◌, arith, refl, length-append}
+use Rattle.std.proofs.Common.{◌≡◌, ◌≤◌, ◌+◌, ◌-◌, ◌++◌, ℕ, List, [], length, take, drop, sym, subst, ap, ◌∙◌, arith, refl, length-append}
 use Rattle.std.proofs.Math.Seq.{take-add, take-length}
 use Rattle.std.proofs.lemmas.List.{length-take-le, take-append-drop, length-drop}
-use Rattle.ids_outside.specs.Images.{Image, SameBut}
 use Rattle.ids_outside.specs.Stops.{Leaves}
 use Rattle.gate_blocks.specs.Gates.{RegionPlaces}
 use Rattle.log_records.specs.Bodies.{Body}
-use Rattle.log_files.specs.Log.{body_at}
-use Rattle.log_files.specs.Files.{Files, IsRing, IsReady, HasFiles, AreNumbered, Grows, Appends, KeepsRetained, Count, taken, retained}
+use Rattle.log_files.specs.Files.{Files, IsReady, AreNumbered, Grows, Appends, KeepsRetained, Count, taken, retained}
 use Rattle.log_files.proofs.Groups.{numbered_from, counts_left, counts_on, grows_wider, grows_on, appends_front, none_same}
 use Rattle.log_files.proofs.Tails.{appends, retained_on}
 use Rattle.log_files.proofs.files.LogFiles.append_blocks.Goals as goal

@@ -1,10 +1,9 @@
-use Rattle.std.proofs.Common.{◌≡◌, ◌⊎◌, inl, inr, ◌<◌, ◌≤◌, ◌+◌, ◌-◌, ℕ, List, Option, None, OnOk, min, sym, subst, ap, ◌∙◌, arith, refl}
+use Rattle.std.proofs.Common.{◌≡◌, ◌≤◌, ◌+◌, ◌-◌, ℕ, None, min, sym, subst, ap, ◌∙◌, arith, refl}
 use Rattle.std.proofs.lemmas.Result.{on_ok_weaker}
-use Rattle.ids_outside.specs.Images.{Image, SameBut}
+use Rattle.ids_outside.specs.Images.{Image}
 use Rattle.gate_blocks.specs.Gates.{block, Within, Closing}
-use Rattle.gate_blocks.specs.declared.region.Region.{Region}
 use Rattle.log_files.specs.Log.{ring_place, body_at}
-use Rattle.log_files.specs.Files.{Files, IsRing, HasFiles, KeepsRetained, Loses, Clears, all_free}
+use Rattle.log_files.specs.Files.{HasFiles, Loses, all_free}
 use Rattle.log_files.proofs.Steps.{both_ok}
 use Rattle.log_files.proofs.Clearing.{closing_of, closed_of, closes, clears, loses_then, first_free, second_free, all_freed}
 use Rattle.log_files.proofs.files.LogFiles.close_rest.Goals as goal

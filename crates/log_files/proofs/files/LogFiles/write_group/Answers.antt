@@ -1,12 +1,9 @@
-use Rattle.std.proofs.Common.{◌≡◌, ◌<◌, ◌≤◌, ◌+◌, ℕ, List, [], length, take, get_or, Some, OnOk, sym, subst, ap, ◌∙◌, arith, refl}
+use Rattle.std.proofs.Common.{◌≡◌, ◌<◌, ◌≤◌, ◌+◌, ℕ, [], length, take, get_or, Some, sym, subst, ap, ◌∙◌, arith, refl}
 use Rattle.std.proofs.lemmas.List.{length-take-le, get_or-take}
 use Rattle.std.proofs.lemmas.Result.{on_ok_weaker}
-use Rattle.std.specs.Prelude.{slice_index_or}
-use Rattle.ids_outside.specs.Images.{Image, SameBut}
-use Rattle.gate_blocks.specs.Gates.{block, body, Staged, Opening, HasBodies, RegionPlaces, Within}
-use Rattle.log_records.specs.Bodies.{Body, body_of}
+use Rattle.gate_blocks.specs.Gates.{block, body, Within}
 use Rattle.log_files.specs.Log.{ring_place, body_at}
-use Rattle.log_files.specs.Files.{IsRing, IsReady, HasFiles, Grows, KeepsRetained, Count, taken}
+use Rattle.log_files.specs.Files.{HasFiles, taken}
 use Rattle.log_files.proofs.Steps.{both_ok}
 use Rattle.log_files.proofs.Writing.{staged_of, opening_of, spelled_of, opened_of}
 use Rattle.log_files.proofs.Growing.{each_has_record, closed_new, none_grown, some_grown, all_has, kept_grown, opened_new}
