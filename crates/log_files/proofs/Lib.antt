@@ -6,3 +6,4 @@ pub mod Groups
 pub mod Steps
 pub mod Writing
 pub mod Clearing
+pub mod Freeing

@@ -28,6 +28,10 @@ pub record IsRing (f : Files) : Type 0 where
 abbrev pub taken : Files → ℕ → Files
 taken f n = record f { next = f.next + n }
 
+-- the blocks before b are no longer retained
+abbrev pub freed : Files → ℕ → Files
+freed f b = record f { first = b }
+
 -- the retained bodies
 abbrev pub retained : Files → Image → List Body
 retained f x = bodies_from f.region f.first (f.next - f.first) x

@@ -1,10 +1,11 @@
 //! The log files.
-ghost use Rattle.std.specs.Prelude.{◌≡◌, ◌<◌, ◌≤◌, ◌+◌, ◌++◌, ℕ, [], length, IfOk, OnOk, OnErr, Some, slice_index_or};
+ghost use Rattle.std.specs.Prelude.{◌≡◌, ◌<◌, ◌≤◌, ◌+◌, ◌-◌, ◌^◌, ◌++◌, ℕ, [], length, IfOk, OnOk, OnErr, Some, slice_index_or};
 ghost use Rattle.ids_outside.specs.Counts.{HasCause};
+ghost use Rattle.ids_outside.specs.Images.{Image};
 ghost use Rattle.ids_outside.specs.Stops.{AreAmong, Leaves};
 ghost use Rattle.log_records.specs.Bodies.{Body, body_of};
-ghost use Rattle.log_files.specs.Log.{body_at, ring_place, with_number};
-ghost use Rattle.log_files.specs.Files.{IsRing, IsReady, IsRead, AreNumbered, Count, Grows, Appends, Clears, KeepsRetained, retained, taken, all_free};
+ghost use Rattle.log_files.specs.Log.{body_at, bodies_from, ring_place, with_number};
+ghost use Rattle.log_files.specs.Files.{IsRing, IsReady, IsRead, HasFiles, AreNumbered, Count, Grows, Appends, Clears, KeepsRetained, retained, taken, freed, all_free};
 
 use gate_blocks::laws::{changes, elsewhere};
 use gate_blocks::{Region, clear_some, open_gates, read_open, write_bodies};
@@ -166,6 +167,32 @@ impl LogFiles {
         self.close_rest(disk)?;
         self.free_rest();
         Ok(())
+    }
+
+    /// The blocks before this one are no longer retained. Their places are as they were, and no more blocks may be taken.
+    /// A disk of this kind that was ready stays so. Constant time.
+    pub fn free_before<D: Disk>(&mut self, block: u64)
+        requires from { self.old.first ≤ block }
+        requires to { block ≤ self.old.next }
+        requires fits { block + self.old.region.count < 2 ^ 64 }
+
+        ensures freed { self.new ≡ freed self.old block }
+        ensures ready { (disk : D) → IsReady D.size D.image D.can_leave self.old disk → IsReady D.size D.image D.can_leave self.new disk }
+        // The retained bodies were those that are freed, and then those that stay.
+        ensures parted { (x : Image) → HasFiles self.old x
+            → retained self.old x ≡ bodies_from self.old.region self.old.first (block - self.old.first) x ++ retained self.new x }
+    {
+        self.begin_at(block);
+    }
+
+    // The blocks from this one on are retained.
+    fn begin_at(&mut self, block: u64)
+        requires from { self.old.first ≤ block }
+        requires to { block ≤ self.old.next }
+        requires fits { block + self.old.region.count < 2 ^ 64 }
+        ensures { self.new ≡ freed self.old block }
+    {
+        self.first = block;
     }
 
     // Each block that is not retained may be taken.
