@@ -2,10 +2,10 @@
 ghost use Rattle.std.specs.Prelude.{◌≡◌, ◌<◌, ◌≤◌, ◌+◌, ◌-◌, ◌^◌, ◌++◌, ℕ, [], length, IfOk, OnOk, OnErr, Some, slice_index_or};
 ghost use Rattle.ids_outside.specs.Counts.{HasCause};
 ghost use Rattle.ids_outside.specs.Images.{Image};
-ghost use Rattle.ids_outside.specs.Stops.{AreAmong, Leaves};
+ghost use Rattle.ids_outside.specs.Stops.{AreAmong, Leaves, Only};
 ghost use Rattle.log_records.specs.Bodies.{Body, body_of};
 ghost use Rattle.log_files.specs.Log.{body_at, bodies_from, ring_place, with_number};
-ghost use Rattle.log_files.specs.Files.{IsRing, IsReady, IsRead, HasFiles, AreNumbered, Count, Grows, Appends, Clears, KeepsRetained, retained, taken, freed, all_free};
+ghost use Rattle.log_files.specs.Files.{IsRing, IsReady, IsRead, HasFiles, AreNumbered, Count, Grows, Appends, Clears, KeepsRetained, retained, taken, freed, all_free, next_free};
 
 use gate_blocks::laws::{changes, elsewhere};
 use gate_blocks::{Region, clear_some, open_gates, read_open, write_bodies};
@@ -183,6 +183,76 @@ impl LogFiles {
             → retained self.old x ≡ bodies_from self.old.region self.old.first (block - self.old.first) x ++ retained self.new x }
     {
         self.begin_at(block);
+    }
+
+    /// Closes the gates of the next file's blocks behind those that may be taken, and syncs. Then these may be taken too. A stop
+    /// at any moment leaves the retained blocks, and none behind them. A read for each block, a write for each open gate, and
+    /// three syncs. Takes no memory.
+    pub fn clear_next<D: Disk>(&mut self, disk: &mut D) -> Result<(), DiskFault>
+        requires ready { IsReady D.size D.image D.can_leave self.old disk.old }
+        requires room { self.old.limit + self.old.file_blocks ≤ self.old.first + self.old.region.count }
+
+        ensures free { OnOk result (self.new ≡ next_free self.old) }
+        ensures err { OnErr result (self.new ≡ self.old) }
+        ensures ready { OnOk result (IsReady D.size D.image D.can_leave self.new disk.new) }
+        ensures same { OnOk result (D.tells → retained self.new (D.image disk.new) ≡ retained self.old (D.image disk.old)) }
+        ensures any_moment { Leaves D.now D.can_leave D.left_at disk.old disk.new (Clears self.old) }
+        ensures sizes { (j : ℕ) → D.size disk.new j ≡ D.size disk.old j }
+        ensures cause { HasCause (D.fault_count disk.old) (D.fault_count disk.new) result }
+    {
+        laws::started::<D, Brand>();
+        laws::stays::<D, Brand>();
+        laws::then::<D, Brand, Brand, Brand>();
+        // A gate that reads closed is then closed whatever a stop leaves.
+        disk.sync()?;
+        self.close_next(disk)?;
+        self.free_next();
+        Ok(())
+    }
+
+    // One more file may be taken.
+    fn free_next(&mut self)
+        requires { self.old.limit + self.old.file_blocks ≤ self.old.first + self.old.region.count }
+        ensures { self.new ≡ next_free self.old }
+    {
+        self.limit += u64::from(self.file_blocks);
+    }
+
+    // Closes the gates of the next file's blocks, behind a sync.
+    fn close_next<D: Disk>(&self, disk: &mut D) -> Result<(), DiskFault>
+        requires ready { IsReady D.size D.image D.can_leave self.now disk.old }
+        requires settled { Only (D.image disk.old) (D.can_leave disk.old) }
+        requires room { self.now.limit + self.now.file_blocks ≤ self.now.first + self.now.region.count }
+
+        ensures ready { OnOk result (IsReady D.size D.image D.can_leave (next_free self.now) disk.new) }
+        ensures kept { OnOk result (D.tells → KeepsRetained self.now (D.image disk.old) (D.image disk.new)) }
+        ensures any_moment { Leaves D.now D.can_leave D.left_at disk.old disk.new (Clears self.now) }
+        ensures sizes { (j : ℕ) → D.size disk.new j ≡ D.size disk.old j }
+        ensures cause { HasCause (D.fault_count disk.old) (D.fault_count disk.new) result }
+    {
+        laws::then::<D, Brand, Brand, Brand>();
+        laws::seen_as::<D, Brand, Brand>();
+        elsewhere();
+        changes();
+        let region = self.region();
+        let count = self.file_blocks();
+        let at = self.place(self.limit());
+        let straight = count.min(region.count - at);
+        clear_some(disk, &region, at, straight)?;
+        clear_some(disk, &region, 0, count - straight)
+    }
+
+    fn file_blocks(&self) -> u32
+        ensures { result ≡ self.now.file_blocks }
+    {
+        self.file_blocks
+    }
+
+    fn limit(&self) -> u64
+        ensures limit { result ≡ self.now.limit }
+        ensures ring { IsRing self.now }
+    {
+        self.limit
     }
 
     // The blocks from this one on are retained.
