@@ -1,5 +1,5 @@
 //! The log files.
-ghost use Rattle.std.specs.Prelude.{◌≡◌, ◌<◌, ◌≤◌, ◌+◌, ◌-◌, ◌^◌, ◌++◌, ℕ, [], length, IfOk, OnOk, OnErr, Some, slice_index_or};
+ghost use Rattle.std.specs.Prelude.{◌≡◌, ◌<◌, ◌≤◌, ◌+◌, ◌-◌, ◌^◌, ◌++◌, ◌↔◌, ℕ, [], length, IsTrue, IfOk, OnOk, OnErr, Some, slice_index_or};
 ghost use Rattle.ids_outside.specs.Counts.{HasCause};
 ghost use Rattle.ids_outside.specs.Images.{Image};
 ghost use Rattle.ids_outside.specs.Stops.{AreAmong, Leaves, Only};
@@ -183,6 +183,13 @@ impl LogFiles {
             → retained self.old x ≡ bodies_from self.old.region self.old.first (block - self.old.first) x ++ retained self.new x }
     {
         self.begin_at(block);
+    }
+
+    /// Whether no place of the next file is retained, so that it may be cleared. Constant time.
+    pub fn can_clear_next(&self) -> bool
+        ensures { IsTrue result ↔ (self.now.limit + self.now.file_blocks ≤ self.now.first + self.now.region.count) }
+    {
+        u64::from(self.file_blocks) <= self.first + u64::from(self.region.count) - self.limit
     }
 
     /// Closes the gates of the next file's blocks behind those that may be taken, and syncs. Then these may be taken too. A stop
