@@ -1,4 +1,1 @@
-pub mod Keeping
-pub mod Names
-pub mod Searching
-pub mod Soundness
+pub mod Walks

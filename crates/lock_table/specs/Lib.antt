@@ -1,4 +1,2 @@
-pub mod Parts
-pub mod Requests
-pub mod Sound
-pub mod Table
+pub mod Book
+pub mod Chains
