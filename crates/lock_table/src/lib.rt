@@ -1,4 +1,7 @@
 //! The lock table: who holds which lock in which mode, and who waits for one.
 #![tactic(auto)]
 
+mod book;
+mod buckets;
 mod chains;
+mod moves;
