@@ -5,7 +5,7 @@ use Rattle.std.proofs.lemmas.Bool.Decides.{eqb_tells, Decides-eqb}
 use Rattle.ids_base.specs.declared.lock.LockEntry.{LockEntry}
 use Rattle.link_lists.specs.Lists.{Lists, has, Once, first_of, behind, list_at, home_at, list_count, id_count, IsSound}
 use Rattle.link_lists.proofs.Members.{has-cons, has-first, has-later, has-both, once-few, same_test, other_test}
-use Rattle.lock_table.specs.Chains.{since, entry_of, entries_of}
+use Rattle.lock_table.specs.Chains.{since, entry_of, entries_of, IsFirst}
 
 pub since-first : (xs : List ℕ) → since (first_of xs) xs ≡ xs
 since-first [] = refl
@@ -86,3 +86,34 @@ length-kept_one p e = by-test (p e)
     by-test : (b : Bool) → length (cond b (e ∷ []) []) ≤ 1
     by-test true = omega arith
     by-test false = omega arith
+
+-- what stands before the place of a walk does not pass the test
+pub record IsPast (p : LockEntry → Bool) (entries : List LockEntry) (ids : List ℕ) (at : Option ℕ) : Type 0 where
+  pub past : List ℕ
+  pub whole : ids ≡ past ++ since at ids
+  pub none : list_any p (entries_of entries past) ≡ false
+
+pub past-front : (p : LockEntry → Bool) (entries : List LockEntry) (ids : List ℕ) (at : Option ℕ) → at ≡ first_of ids → IsPast p entries ids at
+past-front p entries ids at e = record { past = []; whole = sym (ap (λ o. since o ids) e ∙ since-first ids); none = refl }
+
+any-more : (p : LockEntry → Bool) (entries : List LockEntry) (ids : List ℕ) (x : ℕ) → list_any p (entries_of entries ids) ≡ false → p (entry_of entries x) ≡ false → list_any p (entries_of entries (ids ++ x ∷ [])) ≡ false
+any-more p entries [] x h f = ap (λ b. b || false) f
+any-more p entries (y ∷ ys) x h f =
+    by-first (p (entry_of entries y)) h (λ k. any-more p entries ys x k f)
+  where
+    by-first : (b : Bool) → (b || list_any p (entries_of entries ys)) ≡ false → (list_any p (entries_of entries ys) ≡ false → list_any p (entries_of entries (ys ++ x ∷ [])) ≡ false) → (b || list_any p (entries_of entries (ys ++ x ∷ []))) ≡ false
+    by-first true h more = cc
+    by-first false h more = more h
+
+pub past-next : (p : LockEntry → Bool) (entries : List LockEntry) (ids : List ℕ) (x : ℕ) (at at' : Option ℕ) → IsPast p entries ids at → since at ids ≡ x ∷ since at' ids → p (entry_of entries x) ≡ false → IsPast p entries ids at'
+past-next p entries ids x at at' q step out = record {
+  past = q.past ++ x ∷ [];
+  whole = q.whole ∙ ap (λ v. q.past ++ v) step ∙ sym (append_assoc q.past (x ∷ []) (since at' ids));
+  none = any-more p entries q.past x q.none out;
+}
+
+pub first-past : (p : LockEntry → Bool) (entries : List LockEntry) (ids : List ℕ) (x : ℕ) (at : Option ℕ) (rest : List ℕ) → IsPast p entries ids at → since at ids ≡ x ∷ rest → p (entry_of entries x) ≡ true → IsFirst p entries ids x
+first-past p entries ids x at rest q step here = record { before = q.past; behind = rest; whole = q.whole ∙ ap (λ v. q.past ++ v) step; none_before = q.none; passes = here }
+
+pub past-end : (p : LockEntry → Bool) (entries : List LockEntry) (ids : List ℕ) (at : Option ℕ) → IsPast p entries ids at → at ≡ None → list_any p (entries_of entries ids) ≡ false
+past-end p entries ids at q e = ap (λ v. list_any p (entries_of entries v)) (q.whole ∙ ap (λ o. q.past ++ since o ids) e ∙ ap (λ v. q.past ++ v) (since-none ids) ∙ append-nil q.past) ∙ q.none

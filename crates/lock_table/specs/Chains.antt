@@ -1,5 +1,6 @@
 -- The entries along a list of ids.
-use Rattle.std.specs.Prelude.{◌≡◌, ℕ, ◌+◌, ◌*◌, ◌%◌, ◌<◌, ◌==◌, Bool, true, false, ◌&&◌, cond, List, [], ◌∷◌, map, Option, Some, None, slice_index_or}
+use Rattle.std.specs.Prelude.{◌≡◌, ℕ, ◌+◌, ◌*◌, ◌%◌, ◌<◌, ◌==◌, Bool, true, false, ◌&&◌, cond, List, [], ◌∷◌, ◌++◌, map, Option, Some, None, slice_index_or}
+use Rattle.std.specs.List.{list_any}
 use Rattle.ids_base.specs.declared.lock.LockName.{LockName}
 use Rattle.ids_base.specs.declared.lock.LockMode.TheVariants.{IS}
 use Rattle.ids_base.specs.declared.lock.LockEntry.{LockEntry}
@@ -31,3 +32,11 @@ abbrev pub since : Option ℕ → List ℕ → List ℕ
 since None xs = []
 since (Some x) [] = []
 since (Some x) (y ∷ ys) = cond (y == x) (y ∷ ys) (since (Some x) ys)
+
+-- x is the first of these ids whose entry passes the test
+pub record IsFirst (p : LockEntry → Bool) (entries : List LockEntry) (ids : List ℕ) (x : ℕ) : Type 0 where
+  pub before : List ℕ
+  pub behind : List ℕ
+  pub whole : ids ≡ before ++ x ∷ behind
+  pub none_before : list_any p (entries_of entries before) ≡ false
+  pub passes : p (entry_of entries x) ≡ true

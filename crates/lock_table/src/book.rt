@@ -1,8 +1,11 @@
 //! The entries of a lock table, in room taken once, found by name and by thread.
-ghost use Rattle.std.specs.Prelude.{◌≡◌, ℕ, ◌+◌, ◌<◌, ◌≤◌, [], ◌∷◌, ◌++◌, length};
+ghost use Rattle.std.specs.Prelude.{◌≡◌, ◌≢◌, ℕ, List, Some, IsSome, true, false, ◌+◌, ◌<◌, ◌≤◌, [], ◌∷◌, ◌++◌, length};
 ghost use Rattle.lock_table.specs.Kept.{Kept};
 
-use ids_base::lock::LockEntry;
+use crate::buckets::{bucket_of, thread_bucket};
+use crate::moves;
+use ids_base::lock::{LockEntry, LockName};
+use ids_base::numbers::ThreadNo;
 use link_lists::Lists;
 
 /// So many entries. Each is unused, or a lock held, or a waiter, and stands so in a list of `names`, by a hash of the name, and in
@@ -17,4 +20,87 @@ pub struct Book {
     pub told: Lists,
     pub used: u32,
     ghost kept: { Kept limit buckets entries.items names threads told used },
+}
+
+impl Book {
+    ghost use Rattle.link_lists.specs.Lists.{list_at, home_at, without, IsSound};
+    ghost use Rattle.lock_table.specs.Book.{in_list, granted_in, table_of, ListChanges};
+    ghost use Rattle.lock_table.specs.Chains.{entries_of};
+    ghost use Rattle.lock_table.specs.Buckets.{bucket_of as bucket, thread_bucket, name_list, thread_list};
+
+    // The list of a name's holders, or of its queue.
+    fn name_list(&self, waits: bool, name: &LockName) -> u32
+        ensures { result ≡ name_list self.now.buckets waits name.now }
+    {
+        let bucket = bucket_of(self.buckets, name);
+        if waits { self.buckets + bucket } else { bucket }
+    }
+
+    // The list of a thread's locks, or of its waits.
+    fn thread_list(&self, waits: bool, thread: ThreadNo) -> u32
+        ensures { result ≡ thread_list self.now.buckets waits thread }
+    {
+        let bucket = thread_bucket(self.buckets, thread);
+        if waits { self.buckets + bucket } else { bucket }
+    }
+
+    // Takes an unused entry for a lock held or for a waiter, behind all others of its list.
+    fn add_behind(&mut self, waits: bool, entry: LockEntry) -> u32
+        requires { self.old.used < self.old.limit }
+        ensures list { ListChanges self.old self.new (name_list self.old.buckets waits entry.name) (in_list self.old (name_list self.old.buckets waits entry.name) ++ entry ∷ []) }
+        ensures told { granted_in self.new ≡ granted_in self.old }
+        ensures used { self.new.used ≡ self.old.used + 1 }
+    {
+        let list = self.name_list(waits, &entry.name);
+        let thread_list = self.thread_list(waits, entry.thread);
+        match self.names.front(self.buckets + self.buckets) {
+            Some(id) => {
+                let _ = self.told.home(id);
+                moves::move_behind(&mut self.names, id, list);
+                self.entries[id as usize] = entry;
+                self.threads.push_back(thread_list, id);
+                self.used += 1;
+                id
+            }
+            None => unreachable!(),
+        }
+    }
+
+    // Takes an unused entry for a waiter, right before another one of its list.
+    fn add_before(&mut self, entry: LockEntry, next: u32) -> u32
+        requires room { self.old.used < self.old.limit }
+        requires next { home_at self.old.names next ≡ Some (name_list self.old.buckets true entry.name) }
+        ensures list { (before behind : List ℕ) → list_at self.old.names (name_list self.old.buckets true entry.name) ≡ before ++ next ∷ behind → ListChanges self.old self.new (name_list self.old.buckets true entry.name) (entries_of self.old.entries.items before ++ entry ∷ entries_of self.old.entries.items (next ∷ behind)) }
+        ensures told { granted_in self.new ≡ granted_in self.old }
+        ensures used { self.new.used ≡ self.old.used + 1 }
+    {
+        let thread_list = self.thread_list(true, entry.thread);
+        match self.names.front(self.buckets + self.buckets) {
+            Some(id) => {
+                let _ = self.told.home(id);
+                moves::move_before(&mut self.names, id, next);
+                self.entries[id as usize] = entry;
+                self.threads.push_back(thread_list, id);
+                self.used += 1;
+                id
+            }
+            None => unreachable!(),
+        }
+    }
+
+    // Gives back an entry.
+    fn remove(&mut self, id: u32)
+        requires there { id < self.old.limit }
+        requires used { home_at self.old.names id ≢ Some (self.old.buckets + self.old.buckets) }
+        requires home { IsSome (home_at self.old.names id) }
+        ensures list { (l : ℕ) → (before behind : List ℕ) → home_at self.old.names id ≡ Some l → list_at self.old.names l ≡ before ++ id ∷ behind → ListChanges self.old self.new l (entries_of self.old.entries.items before ++ entries_of self.old.entries.items behind) }
+        ensures told { granted_in self.new ≡ entries_of self.old.entries.items (without id (list_at self.old.told 0)) }
+        ensures used { self.new.used + 1 ≡ self.old.used }
+    {
+        let _ = self.names.home(id);
+        moves::move_behind(&mut self.names, id, self.buckets + self.buckets);
+        moves::take_out(&mut self.threads, id);
+        moves::take_out(&mut self.told, id);
+        self.used -= 1;
+    }
 }

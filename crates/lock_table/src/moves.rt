@@ -1,6 +1,6 @@
 //! Ids that move between lists.
-ghost use Rattle.std.specs.Prelude.{◌≡◌, ◌≢◌, ◌<◌, ℕ, Some, IsSome, ◌++◌, ◌∷◌, []};
-ghost use Rattle.link_lists.specs.Lists.{list_at, home_at, list_count, put_before};
+ghost use Rattle.std.specs.Prelude.{◌≡◌, ◌≢◌, ◌<◌, ℕ, Some, None, IsSome, ◌++◌, ◌∷◌, []};
+ghost use Rattle.link_lists.specs.Lists.{list_at, home_at, list_count, id_count, put_before, without, HomeBecomes, SameCounts, IsSound};
 ghost use Rattle.lock_table.specs.Moves.{Moves};
 
 use link_lists::Lists;
@@ -27,4 +27,16 @@ pub fn move_before(lists: &mut Lists, id: u32, next: u32)
     let _ = lists.home(id);
     lists.unlink(id);
     lists.insert_before(next, id);
+}
+
+/// Takes an id out of the list that it is in, if it is in one.
+pub fn take_out(lists: &mut Lists, id: u32)
+    requires { id < id_count lists.old }
+    ensures lists { (l : ℕ) → list_at lists.new l ≡ without id (list_at lists.old l) }
+    ensures home { HomeBecomes lists.old lists.new id None }
+    ensures counts { SameCounts lists.old lists.new }
+{
+    if lists.home(id).is_some() {
+        lists.unlink(id);
+    }
 }
