@@ -100,7 +100,7 @@ module _ (limit buckets : ℕ) (es : List LockEntry) (names threads told : Lists
   module _ (waits : Bool) (e : LockEntry) (x : ℕ) (names' threads' : Lists) (ids : List ℕ) (free : home_at names x ≡ Some (buckets + buckets))
       (moves : Moves names names' x (buckets + buckets) (name_list buckets waits e.name) ids)
       (pushed : HomeBecomes threads threads' x (Some (thread_list buckets waits e.thread))) (counts : SameCounts threads threads') where
-    entry-here : entry_of (set es x e) x ≡ e
+    pub entry-here : entry_of (set es x e) x ≡ e
     entry-here = get_or-set_same es x e no_entry (let a = below x _ free in let b = kept.entry_places in omega (arith, a, b))
 
     pub entry-other : (y : ℕ) → y ≢ x → entry_of (set es x e) y ≡ entry_of es y

@@ -1,9 +1,10 @@
 -- A book of entries as a table.
-use Rattle.std.specs.Prelude.{◌≡◌, ◌≢◌, ℕ, ◌+◌, ◌<◌, List, []}
+use Rattle.std.specs.Prelude.{◌≡◌, ◌≢◌, ℕ, ◌+◌, ◌<◌, Bool, List, [], Some, None}
 use Rattle.ids_base.specs.declared.lock.LockEntry.{LockEntry}
-use Rattle.link_lists.specs.Lists.{list_at}
+use Rattle.link_lists.specs.Lists.{list_at, home_at}
 use Rattle.lock_table.specs.declared.book.Book.{Book}
-use Rattle.lock_table.specs.Chains.{entries_of}
+use Rattle.lock_table.specs.Chains.{entry_of, entries_of}
+use Rattle.lock_table.specs.Buckets.{name_list}
 use Rattle.lock_table.specs.Kept.{joined}
 use Rattle.lock_table.specs.Table.{Table}
 
@@ -28,3 +29,10 @@ pub record ListChanges (old new : Book) (l : ℕ) (es : List LockEntry) : Type 0
   pub others : (k : ℕ) → k < old.buckets + old.buckets → k ≢ l → in_list new k ≡ in_list old k
   pub limit : new.limit ≡ old.limit
   pub buckets : new.buckets ≡ old.buckets
+
+-- this entry has just been taken
+pub record IsNew (b : Book) (x : ℕ) (waits : Bool) (e : LockEntry) : Type 0 where
+  pub below : x < b.limit
+  pub home : home_at b.names x ≡ Some (name_list b.buckets waits e.name)
+  pub entry : entry_of b.entries.items x ≡ e
+  pub untold : home_at b.told x ≡ None

@@ -3,4 +3,7 @@ pub mod Buckets
 pub mod Chains
 pub mod Kept
 pub mod Moves
+pub mod Props
+pub mod Requests
+pub mod Sound
 pub mod Table

@@ -1,8 +1,11 @@
 //! The entries of a lock table, in room taken once, found by name and by thread.
-ghost use Rattle.std.specs.Prelude.{◌≡◌, ◌≢◌, ℕ, List, Some, IsSome, true, false, ◌+◌, ◌<◌, ◌≤◌, [], ◌∷◌, ◌++◌, length};
+ghost use Rattle.std.specs.Prelude.{◌≡◌, ◌≢◌, ℕ, List, Some, IsSome, true, false, vec_capacity, ◌+◌, ◌<◌, ◌≤◌, [], ◌∷◌, ◌++◌, length};
+ghost use Rattle.link_lists.specs.Lists.{IsSound};
 ghost use Rattle.lock_table.specs.Kept.{Kept};
+ghost use Rattle.lock_table.specs.Props.{sound-prop};
 
 use crate::buckets::{bucket_of, thread_bucket};
+use crate::chains;
 use crate::moves;
 use ids_base::lock::{LockEntry, LockName};
 use ids_base::numbers::ThreadNo;
@@ -19,12 +22,17 @@ pub struct Book {
     pub threads: Lists,
     pub told: Lists,
     pub used: u32,
+    ghost names_sound: { IsSound names } by { sound-prop names },
+    ghost threads_sound: { IsSound threads } by { sound-prop threads },
+    ghost told_sound: { IsSound told } by { sound-prop told },
     ghost kept: { Kept limit buckets entries.items names threads told used },
 }
 
 impl Book {
-    ghost use Rattle.link_lists.specs.Lists.{list_at, home_at, without, IsSound};
-    ghost use Rattle.lock_table.specs.Book.{in_list, granted_in, table_of, ListChanges};
+    ghost use Rattle.link_lists.specs.Lists.{list_at, home_at, without};
+    ghost use Rattle.lock_table.specs.Book.{in_list, granted_in, table_of, ListChanges, IsNew};
+    ghost use Rattle.lock_table.specs.Table.{holders, queue, line, Becomes, has_thread};
+    ghost use Rattle.lock_table.specs.Requests.{with_holder, with_waiter};
     ghost use Rattle.lock_table.specs.Chains.{entries_of};
     ghost use Rattle.lock_table.specs.Buckets.{bucket_of as bucket, thread_bucket, name_list, thread_list};
 
@@ -47,6 +55,7 @@ impl Book {
     // Takes an unused entry for a lock held or for a waiter, behind all others of its list.
     fn add_behind(&mut self, waits: bool, entry: LockEntry) -> u32
         requires { self.old.used < self.old.limit }
+        ensures id { IsNew self.new result waits entry }
         ensures list { ListChanges self.old self.new (name_list self.old.buckets waits entry.name) (in_list self.old (name_list self.old.buckets waits entry.name) ++ entry ∷ []) }
         ensures told { granted_in self.new ≡ granted_in self.old }
         ensures used { self.new.used ≡ self.old.used + 1 }
@@ -55,10 +64,9 @@ impl Book {
         let thread_list = self.thread_list(waits, entry.thread);
         match self.names.front(self.buckets + self.buckets) {
             Some(id) => {
-                let _ = self.told.home(id);
                 moves::move_behind(&mut self.names, id, list);
                 self.entries[id as usize] = entry;
-                self.threads.push_back(thread_list, id);
+                moves::join(&mut self.threads, id, thread_list);
                 self.used += 1;
                 id
             }
@@ -77,10 +85,9 @@ impl Book {
         let thread_list = self.thread_list(true, entry.thread);
         match self.names.front(self.buckets + self.buckets) {
             Some(id) => {
-                let _ = self.told.home(id);
                 moves::move_before(&mut self.names, id, next);
                 self.entries[id as usize] = entry;
-                self.threads.push_back(thread_list, id);
+                moves::join(&mut self.threads, id, thread_list);
                 self.used += 1;
                 id
             }
@@ -97,10 +104,66 @@ impl Book {
         ensures told { granted_in self.new ≡ entries_of self.old.entries.items (without id (list_at self.old.told 0)) }
         ensures used { self.new.used + 1 ≡ self.old.used }
     {
-        let _ = self.names.home(id);
         moves::move_behind(&mut self.names, id, self.buckets + self.buckets);
         moves::take_out(&mut self.threads, id);
         moves::take_out(&mut self.told, id);
         self.used -= 1;
+    }
+
+    /// Copies the holders of a name.
+    pub fn load_holders(&self, name: &LockName, into: &mut Vec<LockEntry>)
+        requires { self.now.limit ≤ vec_capacity into.old }
+        ensures items { into.new.items ≡ holders (table_of self.now) name.now }
+        ensures room { vec_capacity into.new ≡ vec_capacity into.old }
+    {
+        let list = self.name_list(false, name);
+        chains::load(&self.names, self.entries.as_slice(), list, name, into);
+    }
+
+    /// Copies the queue of a name.
+    pub fn load_queue(&self, name: &LockName, into: &mut Vec<LockEntry>)
+        requires { self.now.limit ≤ vec_capacity into.old }
+        ensures items { into.new.items ≡ queue (table_of self.now) name.now }
+        ensures room { vec_capacity into.new ≡ vec_capacity into.old }
+    {
+        let list = self.name_list(true, name);
+        chains::load(&self.names, self.entries.as_slice(), list, name, into);
+    }
+
+    /// One holder more, behind the others of the name.
+    pub fn hold(&mut self, entry: LockEntry)
+        requires { self.old.used < self.old.limit }
+        ensures line { Becomes (table_of self.old) (table_of self.new) entry.name (with_holder (line (table_of self.old) entry.name) entry) }
+        ensures granted { granted_in self.new ≡ granted_in self.old }
+        ensures used { self.new.used ≡ self.old.used + 1 }
+    {
+        self.add_behind(false, entry);
+    }
+
+    /// One waiter more, right before another one of the name, or behind all.
+    pub fn enqueue(&mut self, entry: LockEntry, before: Option<ThreadNo>)
+        requires room { self.old.used < self.old.limit }
+        requires there { (thread : ℕ) → before ≡ Some thread → has_thread thread (queue (table_of self.old) entry.name) ≡ true }
+        ensures line { Becomes (table_of self.old) (table_of self.new) entry.name (with_waiter (line (table_of self.old) entry.name) entry before) }
+        ensures granted { granted_in self.new ≡ granted_in self.old }
+        ensures used { self.new.used ≡ self.old.used + 1 }
+    {
+        let Some(thread) = before else {
+            self.add_behind(true, entry);
+            return;
+        };
+        let list = self.name_list(true, &entry.name);
+        match chains::find(
+            &self.names,
+            self.entries.as_slice(),
+            list,
+            thread,
+            &Some(entry.name),
+        ) {
+            Some(next) => {
+                self.add_before(entry, next);
+            }
+            None => unreachable!(),
+        }
     }
 }

@@ -2,8 +2,8 @@ use Rattle.std.proofs.Common.{◌≡◌, ◌≢◌, ◌∙◌, ap, sym, ℕ, Som
 use Rattle.link_lists.specs.Lists.{put_before, home_at}
 use Rattle.lock_table.proofs.moves.move_before.Goals as goal
 
-pub returns : goal.returns
-returns c = λ from list h g.
+pub returns-clause-moves : goal.returns-clause-moves
+returns-clause-moves c = λ from list h g.
     let left = c.unlink.ensures.list from h in
     let other : list ≢ from = λ e. c.requires.other (g ∙ ap Some e ∙ sym h) in
     let apart : c.args.next ≢ c.args.id = λ e. c.requires.other (ap (home_at c.args.lists.now) e) in

@@ -1,8 +1,8 @@
 use Rattle.std.proofs.Common.{◌≡◌, ◌≢◌, ◌∙◌, ap, sym, ℕ, Some, ◌++◌, ◌∷◌, []}
 use Rattle.lock_table.proofs.moves.move_behind.Goals as goal
 
-pub returns : goal.returns
-returns c = λ from h.
+pub returns-clause-moves : goal.returns-clause-moves
+returns-clause-moves c = λ from h.
     let left = c.unlink.ensures.list from h in
     let other : c.args.list ≢ from = λ e. c.requires.other (h ∙ ap Some (sym e)) in
     record {

@@ -3,11 +3,11 @@ use Rattle.std.proofs.lemmas.List.{length_push}
 use Rattle.link_lists.specs.Lists.{list_at, home_at, list_count, id_count, HomeBecomes}
 use Rattle.lock_table.specs.Moves.{Moves}
 use Rattle.lock_table.specs.Buckets.{name_list, thread_list}
-use Rattle.lock_table.proofs.Keeping.{front-home, is-some, not-told, below, name_list-below, thread_list-below, added-kept, added-behind, entry-other, others-same, entries-same}
+use Rattle.lock_table.proofs.Keeping.{front-home, is-some, not-told, below, name_list-below, thread_list-below, added-kept, added-behind, entry-here, entry-other, others-same, entries-same}
 use Rattle.lock_table.proofs.book.Book.add_behind.Goals as goal
 
 pub move_behind-requires-clause-home : goal.move_behind-requires-clause-home
-move_behind-requires-clause-home c = let b = c.args.self.now in is-some _ _ (front-home b.names (b.buckets + b.buckets) c.in-Some.id c.front.result c.front.ensures.sound c.front.ensures.front c.in-Some.is)
+move_behind-requires-clause-home c = let b = c.args.self.now in is-some _ _ (front-home b.names (b.buckets + b.buckets) c.in-Some.id c.front.result b.names_sound c.front.ensures.front c.in-Some.is)
 
 pub move_behind-requires-clause-list : goal.move_behind-requires-clause-list
 move_behind-requires-clause-list c =
@@ -20,73 +20,68 @@ move_behind-requires-clause-list c =
 pub move_behind-requires-clause-other : goal.move_behind-requires-clause-other
 move_behind-requires-clause-other c = λ h.
     let b = c.args.self.now in
-    let free = front-home b.names (b.buckets + b.buckets) c.in-Some.id c.front.result c.front.ensures.sound c.front.ensures.front c.in-Some.is in
+    let free = front-home b.names (b.buckets + b.buckets) c.in-Some.id c.front.result b.names_sound c.front.ensures.front c.in-Some.is in
     let same : b.buckets + b.buckets ≡ c.name_list-list.result = let q = sym free ∙ h in cc in
     let l = name_list-below b.buckets c.args.waits c.args.entry.name b.kept.some_buckets in
     let e = c.name_list-list.ensures in
     omega (arith, l, e, same)
 
-pub home-requires : goal.home-requires
-home-requires c =
-    let b = c.args.self.now in
-    let free = front-home b.names (b.buckets + b.buckets) c.in-Some.id c.front.result c.front.ensures.sound c.front.ensures.front c.in-Some.is in
-    let lt = below b.limit b.buckets b.entries.items b.names b.threads b.told b.used b.kept c.front.ensures.sound c.in-Some.id _ free in
-    let n = b.kept.told_ids in
-    omega (arith, lt, n)
-
 pub index_mut-requires : goal.index_mut-requires
 index_mut-requires c =
     let b = c.args.self.now in
-    let free = front-home b.names (b.buckets + b.buckets) c.in-Some.id c.front.result c.front.ensures.sound c.front.ensures.front c.in-Some.is in
-    let lt = below b.limit b.buckets b.entries.items b.names b.threads b.told b.used b.kept c.front.ensures.sound c.in-Some.id _ free in
+    let free = front-home b.names (b.buckets + b.buckets) c.in-Some.id c.front.result b.names_sound c.front.ensures.front c.in-Some.is in
+    let lt = below b.limit b.buckets b.entries.items b.names b.threads b.told b.used b.kept b.names_sound c.in-Some.id _ free in
     let n = b.kept.entry_places in
     let len = b.entries.ok.0 in
     omega (arith, lt, n, len)
 
-pub push_back-requires-clause-list : goal.push_back-requires-clause-list
-push_back-requires-clause-list c =
+pub join-requires-clause-list : goal.join-requires-clause-list
+join-requires-clause-list c =
     let b = c.args.self.now in
     let l = thread_list-below b.buckets c.args.waits c.args.entry.thread b.kept.some_buckets in
     let e = c.thread_list-thread_list.ensures in
     let n = b.kept.thread_lists in
     omega (arith, l, e, n)
 
-pub push_back-requires-clause-there : goal.push_back-requires-clause-there
-push_back-requires-clause-there c =
+pub join-requires-clause-there : goal.join-requires-clause-there
+join-requires-clause-there c =
     let b = c.args.self.now in
-    let free = front-home b.names (b.buckets + b.buckets) c.in-Some.id c.front.result c.front.ensures.sound c.front.ensures.front c.in-Some.is in
-    let lt = below b.limit b.buckets b.entries.items b.names b.threads b.told b.used b.kept c.front.ensures.sound c.in-Some.id _ free in
+    let free = front-home b.names (b.buckets + b.buckets) c.in-Some.id c.front.result b.names_sound c.front.ensures.front c.in-Some.is in
+    let lt = below b.limit b.buckets b.entries.items b.names b.threads b.told b.used b.kept b.names_sound c.in-Some.id _ free in
     let n = b.kept.thread_ids in
     omega (arith, lt, n)
 
-pub push_back-requires-clause-free : goal.push_back-requires-clause-free
-push_back-requires-clause-free c =
+pub join-requires-clause-free : goal.join-requires-clause-free
+join-requires-clause-free c =
     let b = c.args.self.now in
-    let free = front-home b.names (b.buckets + b.buckets) c.in-Some.id c.front.result c.front.ensures.sound c.front.ensures.front c.in-Some.is in
-    let lt = below b.limit b.buckets b.entries.items b.names b.threads b.told b.used b.kept c.front.ensures.sound c.in-Some.id _ free in
+    let free = front-home b.names (b.buckets + b.buckets) c.in-Some.id c.front.result b.names_sound c.front.ensures.front c.in-Some.is in
+    let lt = below b.limit b.buckets b.entries.items b.names b.threads b.told b.used b.kept b.names_sound c.in-Some.id _ free in
     ((b.kept.each c.in-Some.id lt).unused free).0
 
 pub invariant_of-self : goal.invariant_of-self
 invariant_of-self c =
     let b = c.args.self.now in
     let x = c.in-Some.id in
-    let free = front-home b.names (b.buckets + b.buckets) x c.front.result c.front.ensures.sound c.front.ensures.front c.in-Some.is in
-    let moves = subst (λ l. Moves b.names c.move_behind.new.lists x (b.buckets + b.buckets) l (list_at b.names l ++ x ∷ [])) c.name_list-list.ensures (c.move_behind.ensures (b.buckets + b.buckets) free) in
-    let pushed = subst (λ l. HomeBecomes b.threads c.push_back.new.self x (Some l)) c.thread_list-thread_list.ensures c.push_back.ensures.home in
+    let free = front-home b.names (b.buckets + b.buckets) x c.front.result b.names_sound c.front.ensures.front c.in-Some.is in
+    let moves = subst (λ l. Moves b.names c.move_behind.new.lists x (b.buckets + b.buckets) l (list_at b.names l ++ x ∷ [])) c.name_list-list.ensures (c.move_behind.ensures.moves (b.buckets + b.buckets) free) in
+    let pushed = subst (λ l. HomeBecomes b.threads c.join.new.lists x (Some l)) c.thread_list-thread_list.ensures c.join.ensures.home in
     record {
-      kept = added-kept b.limit b.buckets b.entries.items b.names b.threads b.told b.used b.kept c.front.ensures.sound c.args.waits c.args.entry x c.move_behind.new.lists c.push_back.new.self _ free moves pushed c.push_back.ensures.counts (length_push (list_at b.names (name_list b.buckets c.args.waits c.args.entry.name)) x);
+      names_sound = c.move_behind.ensures.sound;
+      threads_sound = c.join.ensures.sound;
+      told_sound = b.told_sound;
+      kept = added-kept b.limit b.buckets b.entries.items b.names b.threads b.told b.used b.kept b.names_sound c.args.waits c.args.entry x c.move_behind.new.lists c.join.new.lists _ free moves pushed c.join.ensures.counts (length_push (list_at b.names (name_list b.buckets c.args.waits c.args.entry.name)) x);
     }
 
 pub returns-clause-list : goal.returns-clause-list
 returns-clause-list c =
     let b = c.args.self.now in
     let x = c.in-Some.id in
-    let free = front-home b.names (b.buckets + b.buckets) x c.front.result c.front.ensures.sound c.front.ensures.front c.in-Some.is in
-    let moves = subst (λ l. Moves b.names c.move_behind.new.lists x (b.buckets + b.buckets) l (list_at b.names l ++ x ∷ [])) c.name_list-list.ensures (c.move_behind.ensures (b.buckets + b.buckets) free) in
-    let pushed = subst (λ l. HomeBecomes b.threads c.push_back.new.self x (Some l)) c.thread_list-thread_list.ensures c.push_back.ensures.home in
+    let free = front-home b.names (b.buckets + b.buckets) x c.front.result b.names_sound c.front.ensures.front c.in-Some.is in
+    let moves = subst (λ l. Moves b.names c.move_behind.new.lists x (b.buckets + b.buckets) l (list_at b.names l ++ x ∷ [])) c.name_list-list.ensures (c.move_behind.ensures.moves (b.buckets + b.buckets) free) in
+    let pushed = subst (λ l. HomeBecomes b.threads c.join.new.lists x (Some l)) c.thread_list-thread_list.ensures c.join.ensures.home in
     record {
-      here = added-behind b.limit b.buckets b.entries.items b.names b.threads b.told b.used b.kept c.front.ensures.sound c.args.waits c.args.entry x c.move_behind.new.lists c.push_back.new.self _ free moves pushed c.push_back.ensures.counts refl;
-      others = others-same b.limit b.buckets b.entries.items b.names b.threads b.told b.used b.kept c.front.ensures.sound c.args.waits c.args.entry x c.move_behind.new.lists c.push_back.new.self _ free moves pushed c.push_back.ensures.counts;
+      here = added-behind b.limit b.buckets b.entries.items b.names b.threads b.told b.used b.kept b.names_sound c.args.waits c.args.entry x c.move_behind.new.lists c.join.new.lists _ free moves pushed c.join.ensures.counts refl;
+      others = others-same b.limit b.buckets b.entries.items b.names b.threads b.told b.used b.kept b.names_sound c.args.waits c.args.entry x c.move_behind.new.lists c.join.new.lists _ free moves pushed c.join.ensures.counts;
       limit = refl;
       buckets = refl;
     }
@@ -95,10 +90,25 @@ pub returns-clause-told : goal.returns-clause-told
 returns-clause-told c =
     let b = c.args.self.now in
     let x = c.in-Some.id in
-    let free = front-home b.names (b.buckets + b.buckets) x c.front.result c.front.ensures.sound c.front.ensures.front c.in-Some.is in
-    let lt = below b.limit b.buckets b.entries.items b.names b.threads b.told b.used b.kept c.front.ensures.sound x _ free in
-    let moves = subst (λ l. Moves b.names c.move_behind.new.lists x (b.buckets + b.buckets) l (list_at b.names l ++ x ∷ [])) c.name_list-list.ensures (c.move_behind.ensures (b.buckets + b.buckets) free) in
-    let pushed = subst (λ l. HomeBecomes b.threads c.push_back.new.self x (Some l)) c.thread_list-thread_list.ensures c.push_back.ensures.home in
+    let free = front-home b.names (b.buckets + b.buckets) x c.front.result b.names_sound c.front.ensures.front c.in-Some.is in
+    let lt = below b.limit b.buckets b.entries.items b.names b.threads b.told b.used b.kept b.names_sound x _ free in
+    let moves = subst (λ l. Moves b.names c.move_behind.new.lists x (b.buckets + b.buckets) l (list_at b.names l ++ x ∷ [])) c.name_list-list.ensures (c.move_behind.ensures.moves (b.buckets + b.buckets) free) in
+    let pushed = subst (λ l. HomeBecomes b.threads c.join.new.lists x (Some l)) c.thread_list-thread_list.ensures c.join.ensures.home in
     entries-same b.entries.items _ x (list_at b.told 0)
-    (entry-other b.limit b.buckets b.entries.items b.names b.threads b.told b.used b.kept c.front.ensures.sound c.args.waits c.args.entry x c.move_behind.new.lists c.push_back.new.self _ free moves pushed c.push_back.ensures.counts)
-    (not-told b.told x c.home.ensures.sound ((b.kept.each x lt).unused free).1)
+    (entry-other b.limit b.buckets b.entries.items b.names b.threads b.told b.used b.kept b.names_sound c.args.waits c.args.entry x c.move_behind.new.lists c.join.new.lists _ free moves pushed c.join.ensures.counts)
+    (not-told b.told x b.told_sound ((b.kept.each x lt).unused free).1)
+
+pub returns-clause-id : goal.returns-clause-id
+returns-clause-id c =
+    let b = c.args.self.now in
+    let x = c.in-Some.id in
+    let free = front-home b.names (b.buckets + b.buckets) x c.front.result b.names_sound c.front.ensures.front c.in-Some.is in
+    let moves = subst (λ l. Moves b.names c.move_behind.new.lists x (b.buckets + b.buckets) l (list_at b.names l ++ x ∷ [])) c.name_list-list.ensures (c.move_behind.ensures.moves (b.buckets + b.buckets) free) in
+    let pushed = subst (λ l. HomeBecomes b.threads c.join.new.lists x (Some l)) c.thread_list-thread_list.ensures c.join.ensures.home in
+    let lt = below b.limit b.buckets b.entries.items b.names b.threads b.told b.used b.kept b.names_sound x _ free in
+    record {
+      below = lt;
+      home = moves.home.this;
+      entry = entry-here b.limit b.buckets b.entries.items b.names b.threads b.told b.used b.kept b.names_sound c.args.waits c.args.entry x c.move_behind.new.lists c.join.new.lists _ free moves pushed c.join.ensures.counts;
+      untold = ((b.kept.each x lt).unused free).1;
+    }
