@@ -6,12 +6,12 @@ use Rattle.std.proofs.lemmas.Bool.Decides.{Decides-eqb, eqb_tells}
 use Rattle.ids_base.specs.declared.lock.LockEntry.{LockEntry}
 use Rattle.ids_base.specs.declared.lock.LockName.{LockName}
 use Rattle.ids_base.specs.LockNames.{is_same_name}
-use Rattle.link_lists.specs.Lists.{has}
-use Rattle.link_lists.proofs.Members.{has-first, has-later}
+use Rattle.link_lists.specs.Lists.{has, without}
+use Rattle.link_lists.proofs.Members.{has-first, has-later, has-cons}
 use Rattle.lock_table.specs.Buckets.{bucket_of}
 use Rattle.lock_table.specs.Chains.{is_named, is_sought, entry_of, entries_of}
 use Rattle.lock_table.specs.Table.{is_of, has_thread, without_thread}
-use Rattle.lock_table.specs.Requests.{put_first}
+use Rattle.lock_table.specs.Requests.{put_first, without_lock}
 use Rattle.lock_table.specs.Sound.{Apart, same_thread}
 use Rattle.lock_table.proofs.Names.{names-told}
 
@@ -40,18 +40,69 @@ none-named p es (x ∷ xs) h =
     ap (λ b. cond b (entry_of es x ∷ filter p (entries_of es xs)) (filter p (entries_of es xs))) (h x (has-first x xs))
     ∙ none-named p es xs (λ y k. h y (has-later y x xs k))
 
--- none of a thread on a name
-pub sought-none : (thread : ℕ) (name : LockName) (es : List LockEntry) → list_any (is_sought thread (Some name)) es ≡ false → has_thread thread (filter (is_named name) es) ≡ false
-sought-none thread name [] h = refl
-sought-none thread name (e ∷ es) h = by-tests (e.thread == thread) refl (is_named name e) h (λ k. sought-none thread name es k)
+pub sought-parts : (thread : ℕ) (name : LockName) (e : LockEntry) → is_sought thread (Some name) e ≡ true → (is_of thread e ≡ true) × (is_named name e ≡ true)
+sought-parts thread name e h = both (e.thread == thread) (is_same_name e.name name) h
   where
-    by-tests : (a : Bool) → (e.thread == thread) ≡ a → (b : Bool) → ((a && b) || list_any (is_sought thread (Some name)) es) ≡ false
-        → (list_any (is_sought thread (Some name)) es ≡ false → has_thread thread (filter (is_named name) es) ≡ false)
-        → has_thread thread (cond b (e ∷ filter (is_named name) es) (filter (is_named name) es)) ≡ false
-    by-tests true is true k more = cc
-    by-tests true is false k more = more k
-    by-tests false is true k more = ap (λ c. c || has_thread thread (filter (is_named name) es)) is ∙ more k
-    by-tests false is false k more = more k
+    both : (a b : Bool) → (a && b) ≡ true → (a ≡ true) × (b ≡ true)
+    both true b k = (refl, k)
+    both false b k = cc
+
+-- those of a thread on a name, among those of the name
+pub sought-any : (thread : ℕ) (name : LockName) (es : List LockEntry) → list_any (is_sought thread (Some name)) es ≡ has_thread thread (filter (is_named name) es)
+sought-any thread name [] = refl
+sought-any thread name (e ∷ es) = by-tests (e.thread == thread) refl (is_named name e) (sought-any thread name es)
+  where
+    by-tests : (a : Bool) → (e.thread == thread) ≡ a → (b : Bool) → list_any (is_sought thread (Some name)) es ≡ has_thread thread (filter (is_named name) es)
+        → ((a && b) || list_any (is_sought thread (Some name)) es) ≡ has_thread thread (cond b (e ∷ filter (is_named name) es) (filter (is_named name) es))
+    by-tests true is true more = sym (ap (λ c. c || has_thread thread (filter (is_named name) es)) is)
+    by-tests true is false more = more
+    by-tests false is true more = more ∙ sym (ap (λ c. c || has_thread thread (filter (is_named name) es)) is)
+    by-tests false is false more = more
+
+pub sought-none : (thread : ℕ) (name : LockName) (es : List LockEntry) → list_any (is_sought thread (Some name)) es ≡ false → has_thread thread (filter (is_named name) es) ≡ false
+sought-none thread name es h = sym (sought-any thread name es) ∙ h
+
+pub without_lock-here : (thread : ℕ) (name : LockName) (es : List LockEntry) → filter (is_named name) (without_lock thread name es) ≡ without_thread thread (filter (is_named name) es)
+without_lock-here thread name [] = refl
+without_lock-here thread name (e ∷ es) = by-tests (e.thread == thread) refl (is_named name e) refl (without_lock-here thread name es)
+  where
+    by-tests : (a : Bool) → (e.thread == thread) ≡ a → (b : Bool) → is_named name e ≡ b → filter (is_named name) (without_lock thread name es) ≡ without_thread thread (filter (is_named name) es)
+        → filter (is_named name) (cond (not (a && b)) (e ∷ without_lock thread name es) (without_lock thread name es)) ≡ without_thread thread (cond b (e ∷ filter (is_named name) es) (filter (is_named name) es))
+    by-tests true is true n more = more ∙ sym (ap (λ c. cond (not c) (e ∷ without_thread thread (filter (is_named name) es)) (without_thread thread (filter (is_named name) es))) is)
+    by-tests true is false n more = ap (λ c. cond c (e ∷ filter (is_named name) (without_lock thread name es)) (filter (is_named name) (without_lock thread name es))) n ∙ more
+    by-tests false is true n more =
+        ap (λ c. cond c (e ∷ filter (is_named name) (without_lock thread name es)) (filter (is_named name) (without_lock thread name es))) n ∙ ap (λ v. e ∷ v) more
+        ∙ sym (ap (λ c. cond (not c) (e ∷ without_thread thread (filter (is_named name) es)) (without_thread thread (filter (is_named name) es))) is)
+    by-tests false is false n more = ap (λ c. cond c (e ∷ filter (is_named name) (without_lock thread name es)) (filter (is_named name) (without_lock thread name es))) n ∙ more
+
+pub without_lock-other : (thread : ℕ) (name other : LockName) (es : List LockEntry) → other ≢ name → filter (is_named other) (without_lock thread name es) ≡ filter (is_named other) es
+without_lock-other thread name other [] ne = refl
+without_lock-other thread name other (e ∷ es) ne = by-tests (is_sought thread (Some name) e) refl (without_lock-other thread name other es ne)
+  where
+    by-tests : (a : Bool) → is_sought thread (Some name) e ≡ a → filter (is_named other) (without_lock thread name es) ≡ filter (is_named other) es
+        → filter (is_named other) (cond (not a) (e ∷ without_lock thread name es) (without_lock thread name es)) ≡ cond (is_named other e) (e ∷ filter (is_named other) es) (filter (is_named other) es)
+    by-tests true is more = more ∙ sym (ap (λ c. cond c (e ∷ filter (is_named other) es) (filter (is_named other) es))
+        (named-other other e (λ q. ne (q ∙ (names-told e.name name).0 (sought-parts thread name e is).1))))
+    by-tests false is more = ap (λ v. cond (is_named other e) (e ∷ v) v) more
+
+-- taking out an id takes out a lock, where no other id's entry is that lock
+pub without-id : (thread : ℕ) (name : LockName) (es : List LockEntry) (x : ℕ) (ids : List ℕ) → is_sought thread (Some name) (entry_of es x) ≡ true
+    → ((y : ℕ) → has y ids ≡ true → y ≢ x → is_sought thread (Some name) (entry_of es y) ≡ false) → entries_of es (without x ids) ≡ without_lock thread name (entries_of es ids)
+without-id thread name es x [] here out = refl
+without-id thread name es x (y ∷ ys) here out = elim (eqb_tells y x) as (λ v. entries_of es (without x (y ∷ ys)) ≡ without_lock thread name (entries_of es (y ∷ ys))) [
+  | inl t ↦ ap (λ b. entries_of es (cond (not b) (y ∷ without x ys) (without x ys))) t.0 ∙ without-id thread name es x ys here (λ z h. out z (has-later z y ys h))
+      ∙ sym (ap (λ b. cond (not b) (entry_of es y ∷ without_lock thread name (entries_of es ys)) (without_lock thread name (entries_of es ys))) (ap (λ n. is_sought thread (Some name) (entry_of es n)) t.1 ∙ here))
+  | inr u ↦ ap (λ b. entries_of es (cond (not b) (y ∷ without x ys) (without x ys))) u.0 ∙ ap (λ v. entry_of es y ∷ v) (without-id thread name es x ys here (λ z h. out z (has-later z y ys h)))
+      ∙ sym (ap (λ b. cond (not b) (entry_of es y ∷ without_lock thread name (entries_of es ys)) (without_lock thread name (entries_of es ys))) (out y (has-first y ys) u.1))
+]
+
+pub any-has : (p : LockEntry → Bool) (es : List LockEntry) (ids : List ℕ) (y : ℕ) → list_any p (entries_of es ids) ≡ false → has y ids ≡ true → p (entry_of es y) ≡ false
+any-has p es [] y h k = cc
+any-has p es (z ∷ zs) y h k = by-first (p (entry_of es z)) refl h (λ g r. any-has p es zs y g r)
+  where
+    by-first : (b : Bool) → p (entry_of es z) ≡ b → (b || list_any p (entries_of es zs)) ≡ false → (list_any p (entries_of es zs) ≡ false → has y zs ≡ true → p (entry_of es y) ≡ false) → p (entry_of es y) ≡ false
+    by-first true is g more = cc
+    by-first false is g more = elim (has-cons y z zs k) as (λ v. p (entry_of es y) ≡ false) [ inl e ↦ subst (λ n. p (entry_of es n) ≡ false) e is | inr r ↦ more g r ]
 
 pub without-none : (thread : ℕ) (es : List LockEntry) → has_thread thread es ≡ false → without_thread thread es ≡ es
 without-none thread [] h = refl
@@ -72,13 +123,6 @@ apart-right r e (x ∷ xs) ys a = apart-right r e xs ys a.1
 
 pub behind-none : (thread : ℕ) (e : LockEntry) (xs ys : List LockEntry) → Apart same_thread (xs ++ e ∷ ys) → is_of thread e ≡ true → has_thread thread ys ≡ false
 behind-none thread e xs ys a is = subst (λ t. has_thread t ys ≡ false) ((Decides-eqb e.thread thread).0 is) (apart-right same_thread e xs ys a)
-
-pub sought-parts : (thread : ℕ) (name : LockName) (e : LockEntry) → is_sought thread (Some name) e ≡ true → (is_of thread e ≡ true) × (is_named name e ≡ true)
-sought-parts thread name e h = both (e.thread == thread) (is_same_name e.name name) h
-  where
-    both : (a b : Bool) → (a && b) ≡ true → (a ≡ true) × (b ≡ true)
-    both true b k = (refl, k)
-    both false b k = cc
 
 pub put_first-at : (p : LockEntry → Bool) (e y : LockEntry) (xs ys : List LockEntry) → list_any p xs ≡ false → p y ≡ true → put_first p e (xs ++ y ∷ ys) ≡ xs ++ e ∷ y ∷ ys
 put_first-at p e y [] ys h k = ap (λ b. cond b (e ∷ y ∷ ys) (y ∷ put_first p e ys)) k

@@ -12,8 +12,17 @@ use Rattle.lock_table.specs.Kept.{Kept, joined}
 use Rattle.lock_table.specs.Table.{Table, holders, queue, line, Line, Becomes}
 use Rattle.lock_table.specs.Book.{in_list, granted_in, table_of, ListChanges}
 use Rattle.lock_table.proofs.Counts.{filter-joined}
-use Rattle.lock_table.proofs.Filters.{none-named, other-bucket, not-true}
-use Rattle.lock_table.proofs.Keeping.{bucket-below}
+use Rattle.lock_table.specs.Chains.{is_sought, IsFirst}
+use Rattle.lock_table.specs.Table.{is_of, has_thread, without_thread}
+use Rattle.lock_table.specs.Requests.{with_holder, with_waiter, put_first, unheld, unqueued, without_lock}
+use Rattle.lock_table.specs.Sound.{Apart, same_thread}
+use Rattle.std.proofs.lemmas.List.{append-nil, map-append}
+use Rattle.std.proofs.lemmas.List.Elements.{filter-append}
+use Rattle.link_lists.specs.Lists.{without}
+use Rattle.link_lists.proofs.Members.{has-put, has-append, has-middle}
+use Rattle.lock_table.proofs.Names.{names-told}
+use Rattle.lock_table.proofs.Filters.{none-named, other-bucket, not-true, put-passing, put-failing, named-self, named-other, put_first-at, sought-none, sought-any, sought-parts, without-one, behind-none, without_lock-here, without_lock-other, without-id, any-has}
+use Rattle.lock_table.proofs.Keeping.{bucket-below, without-out, not-told}
 
 same-some : (a b : ℕ) → Some a ≡ Some b → a ≡ b
 same-some a b h = cc
@@ -112,3 +121,119 @@ module _ (old new : Book) (l : ℕ) (es : List LockEntry) (ch : ListChanges old 
               (told m ne);
           limit = ch.limit;
         }
+
+-- ---- the calls of a book
+module _ (old new : Book) (e : LockEntry) (told : granted_in new ≡ granted_in old) where
+  same-told : (m : LockName) → filter (is_named m) (granted_in new) ≡ filter (is_named m) (granted_in old)
+  same-told m = ap (filter (is_named m)) told
+
+  others-behind : (l : ℕ) (m : LockName) → m ≢ e.name → filter (is_named m) (in_list old l ++ e ∷ []) ≡ filter (is_named m) (in_list old l)
+  others-behind l m ne = put-failing (is_named m) e (in_list old l) [] (named-other m e ne) ∙ ap (filter (is_named m)) (append-nil (in_list old l))
+
+  here-behind : (l : ℕ) (es : List LockEntry) → es ≡ filter (is_named e.name) (in_list old l) → filter (is_named e.name) (in_list old l ++ e ∷ []) ≡ es ++ e ∷ []
+  here-behind l es h = put-passing (is_named e.name) e (in_list old l) [] (named-self e) ∙ ap (λ v. v ++ e ∷ []) (sym h)
+
+  pub held-line : ListChanges old new (bucket_of old.buckets e.name) (in_list old (bucket_of old.buckets e.name) ++ e ∷ []) → Becomes (table_of old) (table_of new) e.name (with_holder (line (table_of old) e.name) e)
+  held-line ch =
+      let l = bucket_of old.buckets e.name in
+      let made : List LockEntry → Line = λ v. record { holders = v; queue = queue (table_of old) e.name; granted = filter (is_named e.name) (granted_in old) } in
+      subst (λ v. Becomes (table_of old) (table_of new) e.name (made v)) (here-behind l (holders (table_of old) e.name) (holders-are old e.name))
+      (holders-become old new l _ ch e.name (others-behind l) (λ m ne. same-told m) refl _ (same-told e.name))
+
+  pub queued-line : ListChanges old new (old.buckets + bucket_of old.buckets e.name) (in_list old (old.buckets + bucket_of old.buckets e.name) ++ e ∷ []) → Becomes (table_of old) (table_of new) e.name (with_waiter (line (table_of old) e.name) e None)
+  queued-line ch =
+      let l = old.buckets + bucket_of old.buckets e.name in
+      let made : List LockEntry → Line = λ v. record { holders = holders (table_of old) e.name; queue = v; granted = filter (is_named e.name) (granted_in old) } in
+      subst (λ v. Becomes (table_of old) (table_of new) e.name (made v)) (here-behind l (queue (table_of old) e.name) (queue-is old e.name))
+      (queue-becomes old new l _ ch e.name (others-behind l) (λ m ne. same-told m) refl _ (same-told e.name))
+
+  pub queued-before : (thread next : ℕ) (f : IsFirst (is_sought thread (Some e.name)) old.entries.items (list_at old.names (old.buckets + bucket_of old.buckets e.name)) next)
+      → ListChanges old new (old.buckets + bucket_of old.buckets e.name) (entries_of old.entries.items f.before ++ e ∷ entries_of old.entries.items (next ∷ f.behind))
+      → Becomes (table_of old) (table_of new) e.name (with_waiter (line (table_of old) e.name) e (Some thread))
+  queued-before thread next f ch =
+      let l = old.buckets + bucket_of old.buckets e.name in
+      let es = old.entries.items in
+      let p = is_named e.name in
+      let y = entry_of es next in
+      let parts = sought-parts thread e.name y f.passes in
+      let whole : in_list old l ≡ entries_of es f.before ++ y ∷ entries_of es f.behind = ap (entries_of es) f.whole ∙ map-append (entry_of es) f.before (next ∷ f.behind) in
+      let was : queue (table_of old) e.name ≡ filter p (entries_of es f.before) ++ y ∷ filter p (entries_of es f.behind) =
+      queue-is old e.name ∙ ap (filter p) whole ∙ put-passing p y (entries_of es f.before) (entries_of es f.behind) parts.1 in
+      let is : filter p (entries_of es f.before ++ e ∷ entries_of es (next ∷ f.behind)) ≡ put_first (is_of thread) e (queue (table_of old) e.name) =
+      put-passing p e (entries_of es f.before) (entries_of es (next ∷ f.behind)) (named-self e)
+          ∙ ap (λ b. filter p (entries_of es f.before) ++ e ∷ cond b (y ∷ filter p (entries_of es f.behind)) (filter p (entries_of es f.behind))) parts.1
+          ∙ sym (ap (put_first (is_of thread) e) was ∙ put_first-at (is_of thread) e y (filter p (entries_of es f.before)) (filter p (entries_of es f.behind)) (sought-none thread e.name (entries_of es f.before) f.none_before) parts.0) in
+      let made : List LockEntry → Line = λ v. record { holders = holders (table_of old) e.name; queue = v; granted = filter (is_named e.name) (granted_in old) } in
+      subst (λ v. Becomes (table_of old) (table_of new) e.name (made v)) is
+      (queue-becomes old new l _ ch e.name (λ m ne. put-failing (is_named m) e (entries_of es f.before) (entries_of es (next ∷ f.behind)) (named-other m e ne) ∙ ap (filter (is_named m)) (sym whole))
+      (λ m ne. same-told m) refl _ (same-told e.name))
+
+-- an entry given back
+module _ (old new : Book) (thread : ℕ) (name : LockName) (l x : ℕ) (f : IsFirst (is_sought thread (Some name)) old.entries.items (list_at old.names l) x)
+    (ch : ListChanges old new l (entries_of old.entries.items f.before ++ entries_of old.entries.items f.behind)) where
+  gone-here : (es : List LockEntry) → es ≡ filter (is_named name) (in_list old l) → Apart same_thread es
+      → (filter (is_named name) (entries_of old.entries.items f.before ++ entries_of old.entries.items f.behind) ≡ without_thread thread es) × (has_thread thread (filter (is_named name) (entries_of old.entries.items f.behind)) ≡ false)
+  gone-here es h once =
+      let items = old.entries.items in
+      let p = is_named name in
+      let y = entry_of items x in
+      let parts = sought-parts thread name y f.passes in
+      let was : es ≡ filter p (entries_of items f.before) ++ y ∷ filter p (entries_of items f.behind) =
+      h ∙ ap (λ v. filter p (entries_of items v)) f.whole ∙ ap (filter p) (map-append (entry_of items) f.before (x ∷ f.behind)) ∙ put-passing p y (entries_of items f.before) (entries_of items f.behind) parts.1 in
+      let after = behind-none thread y (filter p (entries_of items f.before)) (filter p (entries_of items f.behind)) (subst (λ v. Apart same_thread v) was once) parts.0 in
+      (filter-append p (entries_of items f.before) (entries_of items f.behind)
+          ∙ sym (ap (without_thread thread) was ∙ without-one thread y _ _ parts.0 (sought-none thread name (entries_of items f.before) f.none_before) after), after)
+
+  gone-others : (m : LockName) → m ≢ name → filter (is_named m) (entries_of old.entries.items f.before ++ entries_of old.entries.items f.behind) ≡ filter (is_named m) (in_list old l)
+  gone-others m ne =
+      let items = old.entries.items in
+      let y = entry_of items x in
+      let parts = sought-parts thread name y f.passes in
+      sym (ap (λ v. filter (is_named m) (entries_of items v)) f.whole ∙ ap (filter (is_named m)) (map-append (entry_of items) f.before (x ∷ f.behind))
+          ∙ put-failing (is_named m) y (entries_of items f.before) (entries_of items f.behind) (named-other m y (λ q. ne (q ∙ (names-told y.name name).0 parts.1))))
+
+  pub unqueued-line : l ≡ old.buckets + bucket_of old.buckets name → granted_in new ≡ granted_in old → Apart same_thread (queue (table_of old) name)
+      → Becomes (table_of old) (table_of new) name (unqueued (line (table_of old) name) thread)
+  unqueued-line at told once =
+      let made : List LockEntry → Line = λ v. record { holders = holders (table_of old) name; queue = v; granted = filter (is_named name) (granted_in old) } in
+      subst (λ v. Becomes (table_of old) (table_of new) name (made v)) (gone-here (queue (table_of old) name) (queue-is old name ∙ ap (λ k. filter (is_named name) (in_list old k)) (sym at)) once).0
+      (queue-becomes old new l _ ch name gone-others (λ m ne. ap (filter (is_named m)) told) at _ (ap (filter (is_named name)) told))
+
+  pub unheld-line : l ≡ bucket_of old.buckets name → granted_in new ≡ without_lock thread name (granted_in old) → Apart same_thread (holders (table_of old) name)
+      → Becomes (table_of old) (table_of new) name (unheld (line (table_of old) name) thread)
+  unheld-line at told once =
+      let made : List LockEntry → Line = λ v. record { holders = v; queue = queue (table_of old) name; granted = without_thread thread (filter (is_named name) (granted_in old)) } in
+      subst (λ v. Becomes (table_of old) (table_of new) name (made v)) (gone-here (holders (table_of old) name) (holders-are old name ∙ ap (λ k. filter (is_named name) (in_list old k)) (sym at)) once).0
+      (holders-become old new l _ ch name gone-others (λ m ne. ap (filter (is_named m)) told ∙ without_lock-other thread name m (granted_in old) ne) at _ (ap (filter (is_named name)) told ∙ without_lock-here thread name (granted_in old)))
+
+  -- what becomes of the entries to be told
+  pub told-without : l ≡ bucket_of old.buckets name → Apart same_thread (holders (table_of old) name) → entries_of old.entries.items (without x (list_at old.told 0)) ≡ without_lock thread name (granted_in old)
+  told-without at once = without-id thread name old.entries.items x (list_at old.told 0) f.passes (λ y h ne. not-true _ (λ q.
+      let items = old.entries.items in
+      let parts = sought-parts thread name (entry_of items y) q in
+      let home = (old.told_sound.home 0 y).1 h in
+      let lt : y < old.limit = subst (λ n. y < n) old.kept.told_ids (old.told_sound.there 0 y home).1 in
+      let placed = old.kept.each y lt in
+      let held = placed.held (λ u. let g = sym home ∙ (placed.unused u).1 in cc) (λ u. let g = sym home ∙ (placed.waits u).1 in cc) in
+      let there : home_at old.names y ≡ Some l = held.0 ∙ ap (λ n. Some (bucket_of old.buckets n)) ((names-told (entry_of items y).name name).0 parts.1) ∙ ap Some (sym at) in
+      let listed : has y (f.before ++ x ∷ f.behind) ≡ true = subst (λ v. has y v ≡ true) f.whole ((old.names_sound.home l y).0 there) in
+      let after : list_any (is_sought thread (Some name)) (entries_of items f.behind) ≡ false =
+      sought-any thread name (entries_of items f.behind) ∙ (gone-here (holders (table_of old) name) (holders-are old name ∙ ap (λ k. filter (is_named name) (in_list old k)) (sym at)) once).1 in
+      elim (has-put y x f.before f.behind listed) as (λ v. ⊥) [
+        | inl e ↦ ne (sym e)
+        | inr r ↦ elim (has-append y f.before f.behind r) as (λ v. ⊥) [
+            | inl a ↦ let g = any-has (is_sought thread (Some name)) items f.before y f.none_before a in cc
+            | inr b ↦ let g = any-has (is_sought thread (Some name)) items f.behind y after b in cc
+          ]
+      ]))
+
+  -- a waiter is not to be told
+  pub told-same : l ≡ old.buckets + bucket_of old.buckets name → entries_of old.entries.items (without x (list_at old.told 0)) ≡ granted_in old
+  told-same at =
+      let items = old.entries.items in
+      let parts = sought-parts thread name (entry_of items x) f.passes in
+      let listed : has x (list_at old.names l) ≡ true = subst (λ v. has x v ≡ true) (sym f.whole) (has-middle x f.before f.behind) in
+      let home = (old.names_sound.home l x).1 listed in
+      let placed = old.kept.each x (listed-below old x l listed) in
+      let waits = placed.waits (home ∙ ap Some (at ∙ ap (λ n. old.buckets + bucket_of old.buckets n) (sym ((names-told (entry_of items x).name name).0 parts.1)))) in
+      ap (entries_of items) (without-out x (list_at old.told 0) (not-told old.told x old.told_sound waits.1))

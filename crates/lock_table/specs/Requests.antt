@@ -1,12 +1,13 @@
 -- What each call answers and leaves.
 use Rattle.std.specs.Prelude.{◌≡◌, ℕ, ◌==◌, Bool, true, false, ◌&&◌, ◌||◌, not, cond, List, [], ◌∷◌, ◌++◌, length, take, Option, Some, None, is_some, nat_lt}
-use Rattle.std.specs.List.{find}
+use Rattle.std.specs.List.{find, filter}
 use Rattle.std.specs.Option.{option_map, unwrap_or}
 use Rattle.ids_base.specs.declared.lock.LockName.{LockName}
 use Rattle.ids_base.specs.declared.lock.LockMode.{LockMode}
 use Rattle.ids_base.specs.declared.lock.LockEntry.{LockEntry}
 use Rattle.ids_base.specs.Locks.{covering_mode}
 use Rattle.ids_base.specs.Waits.{conflicts}
+use Rattle.lock_table.specs.Chains.{is_sought}
 use Rattle.lock_table.specs.Table.{Table, Line, line, is_of, mode_held, has_thread, is_blocked, without_thread, settled}
 
 -- the mode asked for; for a holder the least that covers it and the mode held
@@ -31,6 +32,10 @@ up_to p (x ∷ xs) = cond (p x) [] (x ∷ up_to p xs)
 abbrev pub put_first : (LockEntry → Bool) → LockEntry → List LockEntry → List LockEntry
 put_first p e [] = e ∷ []
 put_first p e (x ∷ xs) = cond (p x) (e ∷ x ∷ xs) (x ∷ put_first p e xs)
+
+-- the entries but this thread's on this name
+abbrev pub without_lock : ℕ → LockName → List LockEntry → List LockEntry
+without_lock thread name es = filter (λ e. not (is_sought thread (Some name) e)) es
 
 -- one holder more
 abbrev pub with_holder : Line → LockEntry → Line

@@ -1,5 +1,5 @@
 //! The entries of a lock table, in room taken once, found by name and by thread.
-ghost use Rattle.std.specs.Prelude.{◌≡◌, ◌≢◌, ℕ, List, Some, IsSome, true, false, vec_capacity, ◌+◌, ◌<◌, ◌≤◌, [], ◌∷◌, ◌++◌, length};
+ghost use Rattle.std.specs.Prelude.{◌≡◌, ◌≢◌, ℕ, List, Some, None, IsSome, true, false, vec_capacity, ◌+◌, ◌<◌, ◌≤◌, [], ◌∷◌, ◌++◌, length};
 ghost use Rattle.link_lists.specs.Lists.{IsSound};
 ghost use Rattle.lock_table.specs.Kept.{Kept};
 ghost use Rattle.lock_table.specs.Props.{sound-prop};
@@ -31,9 +31,11 @@ pub struct Book {
 impl Book {
     ghost use Rattle.link_lists.specs.Lists.{list_at, home_at, without};
     ghost use Rattle.lock_table.specs.Book.{in_list, granted_in, table_of, ListChanges, IsNew};
+    ghost use Rattle.std.specs.List.{list_any};
+    ghost use Rattle.lock_table.specs.Sound.{Apart, same_thread};
     ghost use Rattle.lock_table.specs.Table.{holders, queue, line, Becomes, has_thread};
-    ghost use Rattle.lock_table.specs.Requests.{with_holder, with_waiter};
-    ghost use Rattle.lock_table.specs.Chains.{entries_of};
+    ghost use Rattle.lock_table.specs.Requests.{with_holder, with_waiter, unheld, unqueued, without_lock};
+    ghost use Rattle.lock_table.specs.Chains.{entries_of, is_sought, IsFirst};
     ghost use Rattle.lock_table.specs.Buckets.{bucket_of as bucket, thread_bucket, name_list, thread_list};
 
     // The list of a name's holders, or of its queue.
@@ -148,21 +150,69 @@ impl Book {
         ensures granted { granted_in self.new ≡ granted_in self.old }
         ensures used { self.new.used ≡ self.old.used + 1 }
     {
-        let Some(thread) = before else {
-            self.add_behind(true, entry);
-            return;
-        };
-        let list = self.name_list(true, &entry.name);
-        match chains::find(
+        match before {
+            None => {
+                self.add_behind(true, entry);
+            }
+            Some(thread) => self.enqueue_before(entry, thread),
+        }
+    }
+
+    fn enqueue_before(&mut self, entry: LockEntry, thread: ThreadNo)
+        requires room { self.old.used < self.old.limit }
+        requires there { has_thread thread (queue (table_of self.old) entry.name) ≡ true }
+        ensures line { Becomes (table_of self.old) (table_of self.new) entry.name (with_waiter (line (table_of self.old) entry.name) entry (Some thread)) }
+        ensures granted { granted_in self.new ≡ granted_in self.old }
+        ensures used { self.new.used ≡ self.old.used + 1 }
+    {
+        match self.find(true, thread, &entry.name) {
+            Some(next) => {
+                self.add_before(entry, next);
+            }
+            None => unreachable!(),
+        }
+    }
+
+    // The entry of a thread among the holders of a name, or in its queue.
+    fn find(&self, waits: bool, thread: ThreadNo, name: &LockName) -> Option<u32>
+        ensures home { (x : ℕ) → result ≡ Some x → home_at self.now.names x ≡ Some (name_list self.now.buckets waits name.now) }
+        ensures first { (x : ℕ) → result ≡ Some x → IsFirst (is_sought thread (Some name.now)) self.now.entries.items (list_at self.now.names (name_list self.now.buckets waits name.now)) x }
+        ensures none { result ≡ None → list_any (is_sought thread (Some name.now)) (in_list self.now (name_list self.now.buckets waits name.now)) ≡ false }
+    {
+        let list = self.name_list(waits, name);
+        chains::find(
             &self.names,
             self.entries.as_slice(),
             list,
             thread,
-            &Some(entry.name),
-        ) {
-            Some(next) => {
-                self.add_before(entry, next);
-            }
+            &Some(*name),
+        )
+    }
+
+    /// The thread holds the name no more.
+    pub fn release(&mut self, thread: ThreadNo, name: &LockName)
+        requires once { Apart same_thread (holders (table_of self.old) name.now) }
+        requires holds { has_thread thread (holders (table_of self.old) name.now) ≡ true }
+        ensures line { Becomes (table_of self.old) (table_of self.new) name.now (unheld (line (table_of self.old) name.now) thread) }
+        ensures told { granted_in self.new ≡ without_lock thread name.now (granted_in self.old) }
+        ensures used { self.new.used + 1 ≡ self.old.used }
+    {
+        match self.find(false, thread, name) {
+            Some(id) => self.remove(id),
+            None => unreachable!(),
+        }
+    }
+
+    /// The thread waits for the name no more.
+    pub fn leave(&mut self, thread: ThreadNo, name: &LockName)
+        requires once { Apart same_thread (queue (table_of self.old) name.now) }
+        requires waits { has_thread thread (queue (table_of self.old) name.now) ≡ true }
+        ensures line { Becomes (table_of self.old) (table_of self.new) name.now (unqueued (line (table_of self.old) name.now) thread) }
+        ensures told { granted_in self.new ≡ granted_in self.old }
+        ensures used { self.new.used + 1 ≡ self.old.used }
+    {
+        match self.find(true, thread, name) {
+            Some(id) => self.remove(id),
             None => unreachable!(),
         }
     }
