@@ -24,7 +24,7 @@ use Rattle.lock_table.proofs.Names.{names-told}
 use Rattle.lock_table.proofs.Filters.{none-named, other-bucket, not-true, put-passing, put-failing, named-self, named-other, put_first-at, sought-none, sought-any, sought-parts, without-one, behind-none, without_lock-here, without_lock-other, without-id, any-has}
 use Rattle.lock_table.proofs.Keeping.{bucket-below, without-out, not-told}
 
-same-some : (a b : ℕ) → Some a ≡ Some b → a ≡ b
+pub same-some : (a b : ℕ) → Some a ≡ Some b → a ≡ b
 same-some a b h = cc
 
 module _ (b : Book) where

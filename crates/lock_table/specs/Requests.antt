@@ -41,6 +41,10 @@ without_lock thread name es = filter (λ e. not (is_sought thread (Some name) e)
 abbrev pub with_holder : Line → LockEntry → Line
 with_holder l e = record l { holders = l.holders ++ e ∷ [] }
 
+-- one holder more, whose thread is to be told
+abbrev pub with_granted : Line → LockEntry → Line
+with_granted l e = record { holders = l.holders ++ e ∷ []; queue = l.queue; granted = l.granted ++ e ∷ [] }
+
 -- one waiter more, before the one of this thread, or at the end
 abbrev pub put_before_thread : Option ℕ → LockEntry → List LockEntry → List LockEntry
 put_before_thread None e xs = xs ++ e ∷ []

@@ -39,6 +39,11 @@ holders t name = filter (is_named name) t.held
 abbrev pub queue : Table → LockName → List LockEntry
 queue t name = filter (is_named name) t.waiting
 
+-- the queue of a name, or its holders
+abbrev pub side : Bool → Table → LockName → List LockEntry
+side true t name = queue t name
+side false t name = holders t name
+
 abbrev pub line : Table → LockName → Line
 line t name = record { holders = holders t name; queue = queue t name; granted = filter (is_named name) t.granted }
 

@@ -33,9 +33,11 @@ impl Book {
     ghost use Rattle.lock_table.specs.Book.{in_list, granted_in, table_of, ListChanges, IsNew};
     ghost use Rattle.std.specs.List.{list_any};
     ghost use Rattle.lock_table.specs.Sound.{Apart, same_thread};
-    ghost use Rattle.lock_table.specs.Table.{holders, queue, line, Becomes, has_thread};
-    ghost use Rattle.lock_table.specs.Requests.{with_holder, with_waiter, unheld, unqueued, without_lock};
-    ghost use Rattle.lock_table.specs.Chains.{entries_of, is_sought, IsFirst};
+    ghost use Rattle.lock_table.specs.Table.{holders, queue, line, Becomes, has_thread, side, IsTold};
+    ghost use Rattle.ids_base.specs.declared.lock.LockEntry.{LockEntry};
+    ghost use Rattle.ids_base.specs.declared.lock.LockName.{LockName};
+    ghost use Rattle.lock_table.specs.Requests.{with_holder, with_waiter, unheld, unqueued, without_lock, with_granted};
+    ghost use Rattle.lock_table.specs.Chains.{entry_of, entries_of, is_sought, IsFirst};
     ghost use Rattle.lock_table.specs.Buckets.{bucket_of as bucket, thread_bucket, name_list, thread_list};
 
     // The list of a name's holders, or of its queue.
@@ -215,5 +217,49 @@ impl Book {
             Some(id) => self.remove(id),
             None => unreachable!(),
         }
+    }
+
+    /// One holder more, behind the others of the name, whose thread is to be told.
+    pub fn grant(&mut self, entry: LockEntry)
+        requires { self.old.used < self.old.limit }
+        ensures line { Becomes (table_of self.old) (table_of self.new) entry.name (with_granted (line (table_of self.old) entry.name) entry) }
+        ensures told { granted_in self.new ≡ granted_in self.old ++ entry ∷ [] }
+        ensures used { self.new.used ≡ self.old.used + 1 }
+    {
+        let id = self.add_behind(false, entry);
+        self.mark(id);
+    }
+
+    // The thread of this entry, which has just been taken for a lock held, is to be told.
+    fn mark(&mut self, id: u32)
+        requires below { id < self.old.limit }
+        requires held { home_at self.old.names id ≡ Some (name_list self.old.buckets false (entry_of self.old.entries.items id).name) }
+        requires untold { home_at self.old.told id ≡ None }
+        ensures granted { table_of self.new ≡ record (table_of self.old) { granted = granted_in self.old ++ entry_of self.old.entries.items id ∷ [] } }
+        ensures used { self.new.used ≡ self.old.used }
+    {
+        moves::join(&mut self.told, id, 0);
+    }
+
+    /// The thread of the first lock granted and not told, which is told now.
+    pub fn next_told(&mut self) -> Option<ThreadNo>
+        ensures none { result ≡ None → (granted_in self.old ≡ []) × (table_of self.new ≡ table_of self.old) }
+        ensures told { (thread : ℕ) → result ≡ Some thread → IsTold (table_of self.old) (table_of self.new) thread }
+        ensures used { self.new.used ≡ self.old.used }
+    {
+        let id = self.told.front(0)?;
+        let thread = self.entries[id as usize].thread;
+        moves::take_out(&mut self.told, id);
+        Some(thread)
+    }
+
+    /// A lock that the thread holds, or the one that it waits for; none exactly where there is none.
+    pub fn entry_of(&self, waits: bool, thread: ThreadNo) -> Option<LockEntry>
+        ensures some { (e : LockEntry) → result ≡ Some e → (e.thread ≡ thread) × (has_thread thread (side waits (table_of self.now) e.name) ≡ true) }
+        ensures none { result ≡ None → (name : LockName) → has_thread thread (side waits (table_of self.now) name) ≡ false }
+    {
+        let list = self.thread_list(waits, thread);
+        let id = chains::find(&self.threads, self.entries.as_slice(), list, thread, &None)?;
+        Some(self.entries[id as usize])
     }
 }
