@@ -264,3 +264,62 @@ taken-out lists lists' x s h f l =
 
 pub not-in : (lists : Lists) (x : ℕ) → IsSound lists → is_some (home_at lists x) ≡ false → (l : ℕ) → list_at lists l ≡ without x (list_at lists l)
 not-in lists x s h l = sym (without-out x (list_at lists l) (not-has x (list_at lists l) (λ i. let e = sym (none-is (home_at lists x) h) ∙ (s.home l x).1 i in cc)))
+
+-- a lock held may be to be told or not
+pub told-kept : (limit buckets : ℕ) (es : List LockEntry) (names threads told : Lists) (used : ℕ) → Kept limit buckets es names threads told used → (told' : Lists) (x : ℕ) (o : Option ℕ) → HomeBecomes told told' x o → SameCounts told told'
+    → x < limit → home_at names x ≡ Some (bucket_of buckets (entry_of es x).name) → Kept limit buckets es names threads told' used
+told-kept limit buckets es names threads told used kept told' x o becomes counts lt home =
+    let b = bucket-below buckets (entry_of es x).name kept.some_buckets in
+    record {
+      some_buckets = kept.some_buckets;
+      few_buckets = kept.few_buckets;
+      entry_places = kept.entry_places;
+      name_ids = kept.name_ids;
+      thread_ids = kept.thread_ids;
+      told_ids = counts.ids ∙ kept.told_ids;
+      name_lists = kept.name_lists;
+      thread_lists = kept.thread_lists;
+      told_lists = counts.lists ∙ kept.told_lists;
+      each = λ y less. elim (eqb_tells y x) as (λ v. IsPlaced buckets (entry_of es y) (home_at names y) (home_at threads y) (home_at told' y)) [
+        | inl t ↦ subst (λ z. IsPlaced buckets (entry_of es z) (home_at names z) (home_at threads z) (home_at told' z)) (sym t.1)
+            (placed-held buckets (entry_of es x) (home_at names x) (home_at threads x) (home_at told' x) kept.some_buckets home
+            ((kept.each x lt).held (λ q. let e = same-some _ _ (sym home ∙ q) in omega (arith, e, b)) (λ q. let e = same-some _ _ (sym home ∙ q) in omega (arith, e, b))).1)
+        | inr u ↦ placed-moved buckets (entry_of es y) (entry_of es y) _ _ _ _ _ _ refl refl refl (becomes.others y u.1) (kept.each y less)
+      ];
+      free = kept.free;
+      count = kept.count;
+    }
+
+pub first-rest : (x : ℕ) (xs : List ℕ) → Once xs → first_of xs ≡ Some x → xs ≡ x ∷ without x xs
+first-rest x [] o h = cc
+first-rest x (y ∷ ys) o h =
+    let e : y ≡ x = same-some y x h in
+    ap (λ k. k ∷ ys) e ∙ ap (λ v. x ∷ v) (sym (subst (λ k. without x (k ∷ ys) ≡ ys) (sym e) (without-parts x [] ys (subst (λ k. has k ys ≡ false) e o.0))))
+
+-- where the entry of a thread stands among the names
+pub thread-placed : (limit buckets : ℕ) (es : List LockEntry) (names threads told : Lists) (used : ℕ) → Kept limit buckets es names threads told used → (waits : Bool) (x : ℕ) (o : Option ℕ) → x < limit → home_at names x ≡ o
+    → home_at threads x ≡ Some (thread_list buckets waits (entry_of es x).thread) → home_at names x ≡ Some (name_list buckets waits (entry_of es x).name)
+thread-placed limit buckets es names threads told used kept waits x None lt h t =
+    let c = (kept.each x lt).held (λ q. let e = sym h ∙ q in cc) (λ q. let e = sym h ∙ q in cc) in absurd (let e = sym h ∙ c.0 in cc)
+thread-placed limit buckets es names threads told used kept waits x (Some l) lt h t =
+    let at = kept.each x lt in
+    let e = entry_of es x in
+    let b = bucket-below buckets e.name kept.some_buckets in
+    let d = thread-below buckets e.thread kept.some_buckets in
+    elim (eqb_tells l (buckets + buckets)) as (λ v. home_at names x ≡ Some (name_list buckets waits e.name)) [
+      | inl q ↦ absurd (let u = sym (at.unused (h ∙ ap Some q.1)).0 ∙ t in cc)
+      | inr q ↦ elim (eqb_tells l (buckets + bucket_of buckets e.name)) as (λ v. home_at names x ≡ Some (name_list buckets waits e.name)) [
+          | inl r ↦ as-waiter waits t (h ∙ ap Some r.1) (at.waits (h ∙ ap Some r.1)).0
+          | inr r ↦ let c = at.held (λ k. q.1 (same-some _ _ (sym h ∙ k))) (λ k. r.1 (same-some _ _ (sym h ∙ k))) in as-holder waits t c.0 c.1
+        ]
+    ]
+  where
+    as-waiter : (waits : Bool) → home_at threads x ≡ Some (thread_list buckets waits (entry_of es x).thread) → home_at names x ≡ Some (buckets + bucket_of buckets (entry_of es x).name)
+        → home_at threads x ≡ Some (buckets + thread_bucket buckets (entry_of es x).thread) → home_at names x ≡ Some (name_list buckets waits (entry_of es x).name)
+    as-waiter true t n u = n
+    as-waiter false t n u = absurd (let e = same-some _ _ (sym t ∙ u) in let d = thread-below buckets (entry_of es x).thread kept.some_buckets in omega (arith, e, d))
+
+    as-holder : (waits : Bool) → home_at threads x ≡ Some (thread_list buckets waits (entry_of es x).thread) → home_at names x ≡ Some (bucket_of buckets (entry_of es x).name)
+        → home_at threads x ≡ Some (thread_bucket buckets (entry_of es x).thread) → home_at names x ≡ Some (name_list buckets waits (entry_of es x).name)
+    as-holder false t n u = n
+    as-holder true t n u = absurd (let e = same-some _ _ (sym t ∙ u) in let d = thread-below buckets (entry_of es x).thread kept.some_buckets in omega (arith, e, d))

@@ -3,4 +3,6 @@ pub mod Filters
 pub mod Keeping
 pub mod Lines
 pub mod Names
+pub mod Searching
+pub mod Waiters
 pub mod Walks

@@ -1,28 +1,28 @@
 -- The lines of a book's names.
-use Rattle.std.proofs.Common.{◌≡◌, ◌≢◌, ◌∙◌, sym, ap, subst, refl, ℕ, ◌+◌, ◌<◌, ◌≤◌, Bool, true, false, cond, List, [], ◌∷◌, ◌++◌, length, Option, Some, None, ◌⊎◌, inl, inr, arith}
+use Rattle.std.proofs.Common.{◌≡◌, ◌≢◌, ◌∙◌, sym, ap, subst, refl, ℕ, ◌+◌, ◌<◌, ◌≤◌, Bool, true, false, cond, ◌||◌, ◌&&◌, List, [], ◌∷◌, ◌++◌, length, Option, Some, None, ◌⊎◌, inl, inr, arith}
 use Rattle.std.specs.List.{filter, list_any}
-use Rattle.std.proofs.lemmas.Bool.Decides.{eqb_tells}
+use Rattle.std.proofs.lemmas.Bool.Decides.{eqb_tells, Decides-eqb}
 use Rattle.ids_base.specs.declared.lock.LockEntry.{LockEntry}
 use Rattle.ids_base.specs.declared.lock.LockName.{LockName}
 use Rattle.link_lists.specs.Lists.{has, list_at, home_at, IsSound}
 use Rattle.lock_table.specs.declared.book.Book.{Book}
-use Rattle.lock_table.specs.Buckets.{bucket_of}
+use Rattle.lock_table.specs.Buckets.{bucket_of, name_list, thread_list}
 use Rattle.lock_table.specs.Chains.{entry_of, entries_of, is_named}
 use Rattle.lock_table.specs.Kept.{Kept, joined}
 use Rattle.lock_table.specs.Table.{Table, holders, queue, line, Line, Becomes}
 use Rattle.lock_table.specs.Book.{in_list, granted_in, table_of, ListChanges}
 use Rattle.lock_table.proofs.Counts.{filter-joined}
 use Rattle.lock_table.specs.Chains.{is_sought, IsFirst}
-use Rattle.lock_table.specs.Table.{is_of, has_thread, without_thread}
-use Rattle.lock_table.specs.Requests.{with_holder, with_waiter, put_first, unheld, unqueued, without_lock}
+use Rattle.lock_table.specs.Table.{is_of, has_thread, without_thread, side}
+use Rattle.lock_table.specs.Requests.{with_holder, with_waiter, put_first, unheld, unqueued, without_lock, with_granted}
 use Rattle.lock_table.specs.Sound.{Apart, same_thread}
 use Rattle.std.proofs.lemmas.List.{append-nil, map-append}
 use Rattle.std.proofs.lemmas.List.Elements.{filter-append}
 use Rattle.link_lists.specs.Lists.{without}
-use Rattle.link_lists.proofs.Members.{has-put, has-append, has-middle}
+use Rattle.link_lists.proofs.Members.{has-put, has-append, has-middle, has-first, has-later}
 use Rattle.lock_table.proofs.Names.{names-told}
-use Rattle.lock_table.proofs.Filters.{none-named, other-bucket, not-true, put-passing, put-failing, named-self, named-other, put_first-at, sought-none, sought-any, sought-parts, without-one, behind-none, without_lock-here, without_lock-other, without-id, any-has}
-use Rattle.lock_table.proofs.Keeping.{bucket-below, without-out, not-told}
+use Rattle.lock_table.proofs.Filters.{none-named, other-bucket, not-true, put-passing, put-failing, named-self, named-other, put_first-at, sought-none, sought-any, sought-parts, without-one, without-none, behind-none, without_lock-here, without_lock-other, without-id, any-has}
+use Rattle.lock_table.proofs.Keeping.{bucket-below, without-out, not-told, thread-placed}
 
 pub same-some : (a b : ℕ) → Some a ≡ Some b → a ≡ b
 same-some a b h = cc
@@ -237,3 +237,100 @@ module _ (old new : Book) (thread : ℕ) (name : LockName) (l x : ℕ) (f : IsFi
       let placed = old.kept.each x (listed-below old x l listed) in
       let waits = placed.waits (home ∙ ap Some (at ∙ ap (λ n. old.buckets + bucket_of old.buckets n) (sym ((names-told (entry_of items x).name name).0 parts.1)))) in
       ap (entries_of items) (without-out x (list_at old.told 0) (not-told old.told x old.told_sound waits.1))
+
+pub granted-line : (t u v : Table) (e : LockEntry) (gs : List LockEntry) → Becomes t u e.name (with_holder (line t e.name) e) → v ≡ record u { granted = gs ++ e ∷ [] } → gs ≡ t.granted → u.granted ≡ t.granted
+    → Becomes t v e.name (with_granted (line t e.name) e)
+granted-line t u v e gs b is same keeps =
+    let made : List LockEntry → List LockEntry → List LockEntry → Line = λ x y z. record { holders = x; queue = y; granted = z } in
+    let w : Table = record u { granted = t.granted ++ e ∷ [] } in
+    let is' : v ≡ w = is ∙ ap (λ g. record u { granted = g ++ e ∷ [] }) same in
+    subst (λ k. Becomes t k e.name (with_granted (line t e.name) e)) (sym is') (record {
+      here = ap (λ x. made x.holders x.queue (filter (is_named e.name) (t.granted ++ e ∷ []))) b.here
+          ∙ ap (made (holders t e.name ++ e ∷ []) (queue t e.name)) (put-passing (is_named e.name) e t.granted [] (named-self e));
+      others = λ m ne. ap (λ x. made x.holders x.queue (filter (is_named m) (t.granted ++ e ∷ []))) (b.others m ne)
+          ∙ ap (made (holders t m) (queue t m)) (put-failing (is_named m) e t.granted [] (named-other m e ne) ∙ ap (filter (is_named m)) (append-nil t.granted));
+      limit = b.limit;
+    })
+
+any-found : (thread : ℕ) (name : LockName) (es : List LockEntry) (ids : List ℕ) → has_thread thread (filter (is_named name) (entries_of es ids)) ≡ true → (y : ℕ) × (has y ids ≡ true) × (is_of thread (entry_of es y) ≡ true) × (is_named name (entry_of es y) ≡ true)
+any-found thread name es [] h = cc
+any-found thread name es (x ∷ xs) h = by-tests (is_named name (entry_of es x)) refl (is_of thread (entry_of es x)) refl h (λ k. any-found thread name es xs k)
+  where
+    later : (y : ℕ) × (has y xs ≡ true) × (is_of thread (entry_of es y) ≡ true) × (is_named name (entry_of es y) ≡ true) → (y : ℕ) × (has y (x ∷ xs) ≡ true) × (is_of thread (entry_of es y) ≡ true) × (is_named name (entry_of es y) ≡ true)
+    later r = (r.0, has-later r.0 x xs r.1, r.2, r.3)
+
+    by-tests : (a : Bool) → is_named name (entry_of es x) ≡ a → (b : Bool) → is_of thread (entry_of es x) ≡ b → has_thread thread (cond a (entry_of es x ∷ filter (is_named name) (entries_of es xs)) (filter (is_named name) (entries_of es xs))) ≡ true
+        → (has_thread thread (filter (is_named name) (entries_of es xs)) ≡ true → (y : ℕ) × (has y xs ≡ true) × (is_of thread (entry_of es y) ≡ true) × (is_named name (entry_of es y) ≡ true)) → (y : ℕ) × (has y (x ∷ xs) ≡ true) × (is_of thread (entry_of es y) ≡ true) × (is_named name (entry_of es y) ≡ true)
+    by-tests false n b is k more = later (more k)
+    by-tests true n true is k more = (x, has-first x xs, is, n)
+    by-tests true n false is k more = later (more (sym (ap (λ c. c || has_thread thread (filter (is_named name) (entries_of es xs))) is) ∙ k))
+
+any-true : (p : LockEntry → Bool) (es : List LockEntry) (ids : List ℕ) (y : ℕ) → has y ids ≡ true → p (entry_of es y) ≡ true → list_any p (entries_of es ids) ≡ true
+any-true p es ids y h k = elim (list_any p (entries_of es ids)) as (λ b. list_any p (entries_of es ids) ≡ b → b ≡ true) [
+  | true ↦ (λ _. refl)
+  | false ↦ (λ e. absurd (let g = any-has p es ids y e h in cc))
+] refl
+
+module _ (b : Book) (thread : ℕ) where
+  side-is : (waits : Bool) (name : LockName) → side waits (table_of b) name ≡ filter (is_named name) (in_list b (name_list b.buckets waits name))
+  side-is true name = queue-is b name
+  side-is false name = holders-are b name
+
+  home-threads : (waits : Bool) (x : ℕ) (name : LockName) → home_at b.names x ≡ Some (name_list b.buckets waits name) → home_at b.threads x ≡ Some (thread_list b.buckets waits (entry_of b.entries.items x).thread)
+  home-threads true x name h =
+      let listed = (b.names_sound.home _ x).0 h in
+      let k = bucket-below b.buckets name b.kept.some_buckets in
+      ((b.kept.each x (listed-below b x _ listed)).waits (h ∙ ap (λ n. Some (b.buckets + n)) (sym (waiter-bucket b x (bucket_of b.buckets name) k listed)))).0
+  home-threads false x name h =
+      let listed = (b.names_sound.home _ x).0 h in
+      let k = bucket-below b.buckets name b.kept.some_buckets in
+      ((b.kept.each x (listed-below b x _ listed)).held (λ q. let e = same-some _ _ (sym h ∙ q) in omega (arith, e, k)) (λ q. let e = same-some _ _ (sym h ∙ q) in omega (arith, e, k))).1
+
+  -- where the thread has no entry among its locks or waits, it has none at any name
+  pub none-of-thread : (waits : Bool) → list_any (is_sought thread None) (entries_of b.entries.items (list_at b.threads (thread_list b.buckets waits thread))) ≡ false → (name : LockName) → has_thread thread (side waits (table_of b) name) ≡ false
+  none-of-thread waits none name = not-true _ (λ h.
+      let f = any-found thread name b.entries.items (list_at b.names (name_list b.buckets waits name)) (sym (ap (has_thread thread) (side-is waits name)) ∙ h) in
+      let home = (b.names_sound.home _ f.0).1 f.1 in
+      let same = (Decides-eqb (entry_of b.entries.items f.0).thread thread).0 f.2 in
+      let there = (b.threads_sound.home (thread_list b.buckets waits thread) f.0).0 (home-threads waits f.0 name home ∙ ap (λ n. Some (thread_list b.buckets waits n)) same) in
+      let g = any-has (is_sought thread None) b.entries.items (list_at b.threads (thread_list b.buckets waits thread)) f.0 none there in
+      let g2 = f.2 in
+      cc)
+
+  pub some-of-thread : (waits : Bool) (x : ℕ) → home_at b.threads x ≡ Some (thread_list b.buckets waits thread) → is_sought thread None (entry_of b.entries.items x) ≡ true
+      → has_thread thread (side waits (table_of b) (entry_of b.entries.items x).name) ≡ true
+  some-of-thread waits x home is =
+      let e = entry_of b.entries.items x in
+      let same = (Decides-eqb e.thread thread).0 is in
+      let lt : x < b.limit = subst (λ n. x < n) b.kept.thread_ids (b.threads_sound.there _ x home).1 in
+      let at = thread-placed b.limit b.buckets b.entries.items b.names b.threads b.told b.used b.kept waits x _ lt refl (home ∙ ap (λ n. Some (thread_list b.buckets waits n)) (sym same)) in
+      let listed = (b.names_sound.home _ x).0 at in
+      ap (has_thread thread) (side-is waits e.name) ∙ sym (sought-any thread e.name (in_list b (name_list b.buckets waits e.name)))
+          ∙ any-true (is_sought thread (Some e.name)) b.entries.items (list_at b.names (name_list b.buckets waits e.name)) x listed (both _ _ is (named-self e))
+    where
+      both : (a c : Bool) → a ≡ true → c ≡ true → (a && c) ≡ true
+      both a c f g = ap (λ v. v && c) f ∙ g
+
+-- who is to be told holds its lock
+pub told-holds : (b : Book) (thread : ℕ) (name : LockName) → has_thread thread (filter (is_named name) (granted_in b)) ≡ true → has_thread thread (holders (table_of b) name) ≡ true
+told-holds b thread name h =
+    let items = b.entries.items in
+    let f = any-found thread name items (list_at b.told 0) h in
+    let home = (b.told_sound.home 0 f.0).1 f.1 in
+    let lt : f.0 < b.limit = subst (λ n. f.0 < n) b.kept.told_ids (b.told_sound.there 0 f.0 home).1 in
+    let placed = b.kept.each f.0 lt in
+    let held = placed.held (λ u. let g = sym home ∙ (placed.unused u).1 in cc) (λ u. let g = sym home ∙ (placed.waits u).1 in cc) in
+    let at = held.0 ∙ ap (λ n. Some (bucket_of b.buckets n)) ((names-told (entry_of items f.0).name name).0 f.3) in
+    let listed = (b.names_sound.home _ f.0).0 at in
+    ap (has_thread thread) (holders-are b name) ∙ sym (sought-any thread name (in_list b (bucket_of b.buckets name)))
+        ∙ any-true (is_sought thread (Some name)) items (list_at b.names (bucket_of b.buckets name)) f.0 listed (ap (λ v. v && is_named name (entry_of items f.0)) f.2 ∙ f.3)
+
+pub unheld-none : (b : Book) (thread : ℕ) (name : LockName) → has_thread thread (holders (table_of b) name) ≡ false → Becomes (table_of b) (table_of b) name (unheld (line (table_of b) name) thread)
+unheld-none b thread name h =
+    let made : List LockEntry → List LockEntry → Line = λ x y. record { holders = x; queue = queue (table_of b) name; granted = y } in
+    record {
+      here = ap (λ x. made x (filter (is_named name) (granted_in b))) (sym (without-none thread (holders (table_of b) name) h))
+          ∙ ap (made (without_thread thread (holders (table_of b) name))) (sym (without-none thread (filter (is_named name) (granted_in b)) (not-true _ (λ g. let e = told-holds b thread name g in cc))));
+      others = λ m ne. refl;
+      limit = refl;
+    }

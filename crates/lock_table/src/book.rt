@@ -191,17 +191,15 @@ impl Book {
         )
     }
 
-    /// The thread holds the name no more.
+    /// The thread holds the name no more, if it held it.
     pub fn release(&mut self, thread: ThreadNo, name: &LockName)
-        requires once { Apart same_thread (holders (table_of self.old) name.now) }
-        requires holds { has_thread thread (holders (table_of self.old) name.now) ≡ true }
+        requires { Apart same_thread (holders (table_of self.old) name.now) }
         ensures line { Becomes (table_of self.old) (table_of self.new) name.now (unheld (line (table_of self.old) name.now) thread) }
-        ensures told { granted_in self.new ≡ without_lock thread name.now (granted_in self.old) }
-        ensures used { self.new.used + 1 ≡ self.old.used }
+        ensures used { self.new.used ≤ self.old.used }
+        ensures freed { has_thread thread (holders (table_of self.old) name.now) ≡ true → self.new.used + 1 ≡ self.old.used }
     {
-        match self.find(false, thread, name) {
-            Some(id) => self.remove(id),
-            None => unreachable!(),
+        if let Some(id) = self.find(false, thread, name) {
+            self.remove(id);
         }
     }
 

@@ -5,3 +5,4 @@ mod book;
 mod buckets;
 mod chains;
 mod moves;
+mod search;
