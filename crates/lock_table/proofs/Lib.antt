@@ -4,5 +4,6 @@ pub mod Keeping
 pub mod Lines
 pub mod Names
 pub mod Searching
+pub mod Settling
 pub mod Waiters
 pub mod Walks

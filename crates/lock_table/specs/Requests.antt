@@ -88,6 +88,10 @@ is_against l thread name mode = is_blocked l.holders (earlier l thread) (wanted 
 abbrev pub taken : Line → LockEntry → Line
 taken l lock = record { holders = without_thread lock.thread l.holders ++ lock ∷ []; queue = l.queue; granted = without_thread lock.thread l.granted }
 
+-- a waiter holds its lock, in place of any that its thread held, and its thread is to be told
+abbrev pub promoted : Line → LockEntry → Line
+promoted l w = record { holders = without_thread w.thread l.holders ++ w ∷ []; queue = without_thread w.thread l.queue; granted = without_thread w.thread l.granted ++ w ∷ [] }
+
 -- the thread left the queue
 abbrev pub unqueued : Line → ℕ → Line
 unqueued l thread = record l { queue = without_thread thread l.queue }

@@ -32,11 +32,11 @@ impl Book {
     ghost use Rattle.link_lists.specs.Lists.{list_at, home_at, without};
     ghost use Rattle.lock_table.specs.Book.{in_list, granted_in, table_of, ListChanges, IsNew};
     ghost use Rattle.std.specs.List.{list_any};
-    ghost use Rattle.lock_table.specs.Sound.{Apart, same_thread};
-    ghost use Rattle.lock_table.specs.Table.{holders, queue, line, Becomes, has_thread, side, IsTold};
+    ghost use Rattle.lock_table.specs.Sound.{Apart, same_thread, IsLoose};
+    ghost use Rattle.lock_table.specs.Table.{holders, queue, line, Becomes, has_thread, side, is_full, IsTold};
     ghost use Rattle.ids_base.specs.declared.lock.LockEntry.{LockEntry};
     ghost use Rattle.ids_base.specs.declared.lock.LockName.{LockName};
-    ghost use Rattle.lock_table.specs.Requests.{with_holder, with_waiter, unheld, unqueued, without_lock, with_granted};
+    ghost use Rattle.lock_table.specs.Requests.{with_holder, with_waiter, unheld, unqueued, with_granted, promoted, taken};
     ghost use Rattle.lock_table.specs.Chains.{entry_of, entries_of, is_sought, IsFirst};
     ghost use Rattle.lock_table.specs.Buckets.{bucket_of as bucket, thread_bucket, name_list, thread_list};
 
@@ -198,8 +198,9 @@ impl Book {
         ensures used { self.new.used ≤ self.old.used }
         ensures freed { has_thread thread (holders (table_of self.old) name.now) ≡ true → self.new.used + 1 ≡ self.old.used }
     {
-        if let Some(id) = self.find(false, thread, name) {
-            self.remove(id);
+        match self.find(false, thread, name) {
+            Some(id) => self.remove(id),
+            None => {}
         }
     }
 
@@ -259,5 +260,35 @@ impl Book {
         let list = self.thread_list(waits, thread);
         let id = chains::find(&self.threads, self.entries.as_slice(), list, thread, &None)?;
         Some(self.entries[id as usize])
+    }
+
+    /// Whether the entries are as many as the limit.
+    pub fn is_full(&self) -> bool
+        ensures { result ≡ is_full (table_of self.now) }
+    {
+        self.used >= self.limit
+    }
+
+    /// The waiter holds the lock, in place of any that its thread held, and its thread is to be told.
+    pub fn promote(&mut self, waiter: LockEntry)
+        requires once { IsLoose (line (table_of self.old) waiter.name) }
+        requires waits { has_thread waiter.thread (queue (table_of self.old) waiter.name) ≡ true }
+        ensures line { Becomes (table_of self.old) (table_of self.new) waiter.name (promoted (line (table_of self.old) waiter.name) waiter) }
+        ensures used { self.new.used ≤ self.old.used }
+    {
+        self.leave(waiter.thread, &waiter.name);
+        self.release(waiter.thread, &waiter.name);
+        self.grant(waiter);
+    }
+
+    /// The thread holds the lock, in place of any that it held on the name.
+    pub fn take(&mut self, lock: LockEntry)
+        requires once { IsLoose (line (table_of self.old) lock.name) }
+        requires room { has_thread lock.thread (holders (table_of self.old) lock.name) ≡ false → self.old.used < self.old.limit }
+        ensures line { Becomes (table_of self.old) (table_of self.new) lock.name (taken (line (table_of self.old) lock.name) lock) }
+        ensures used { self.new.used ≤ self.old.used + 1 }
+    {
+        self.release(lock.thread, &lock.name);
+        self.hold(lock);
     }
 }
