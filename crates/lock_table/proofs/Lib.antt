@@ -1,5 +1,6 @@
 pub mod Counts
 pub mod Filters
+pub mod Grants
 pub mod Keeping
 pub mod Lines
 pub mod Names

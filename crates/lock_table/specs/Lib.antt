@@ -1,6 +1,7 @@
 pub mod Book
 pub mod Buckets
 pub mod Chains
+pub mod Inside
 pub mod Kept
 pub mod Moves
 pub mod Props

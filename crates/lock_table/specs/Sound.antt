@@ -1,10 +1,10 @@
 -- What is true of every lock table.
-use Rattle.std.specs.Prelude.{◌≡◌, ℕ, ◌+◌, ◌≤◌, Bool, true, false, ◌&&◌, ◌||◌, List, [], ◌∷◌, ◌++◌, None}
+use Rattle.std.specs.Prelude.{◌≡◌, ℕ, ◌+◌, ◌≤◌, Bool, true, false, ◌&&◌, ◌||◌, List, [], ◌∷◌, ◌++◌, Some, None}
 use Rattle.std.specs.List.{list_any}
 use Rattle.ids_base.specs.declared.lock.LockEntry.{LockEntry}
 use Rattle.ids_base.specs.declared.lock.LockName.{LockName}
 use Rattle.ids_base.specs.Waits.{conflicts}
-use Rattle.lock_table.specs.Table.{Table, Line, line, is_of, entry_count, first_free, WaitsAt}
+use Rattle.lock_table.specs.Table.{Table, Line, line, Place, is_of, entry_count, first_free, WaitsAt}
 
 -- none of these stands so to a later one
 abbrev pub Apart : (LockEntry → LockEntry → Bool) → List LockEntry → Type 0
@@ -30,3 +30,9 @@ pub record IsSound (t : Table) : Type 0 where
   pub limited : entry_count t ≤ t.limit
   pub lines : (name : LockName) → IsSettled (line t name)
   pub waits_once : (thread : ℕ) (a b : LockName) → WaitsAt t thread a → WaitsAt t thread b → a ≡ b
+
+-- w is the first waiter that nothing is against
+pub record IsFree (l : Line) (w : LockEntry) : Type 0 where
+  pub place : Place
+  pub first : first_free l.holders [] l.queue ≡ Some place
+  pub waiter : place.waiter ≡ w

@@ -6,3 +6,7 @@ mod buckets;
 mod chains;
 mod moves;
 mod search;
+mod settle;
+pub mod locks;
+
+pub use locks::{LockAnswer, Locks};
