@@ -1,6 +1,7 @@
 //! The lock table: who holds which lock in which mode, and who waits for one.
 #![tactic(auto)]
 
+mod asked;
 mod book;
 mod buckets;
 mod chains;

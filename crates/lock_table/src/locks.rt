@@ -8,10 +8,10 @@ ghost use Rattle.lock_table.specs.Table.{Table, line, holders, queue, mode_held,
 ghost use Rattle.lock_table.specs.Requests.{IsCovered, is_against, is_overtaken, mode_wanted, wanted, earlier, blocker, taken, queued, withdrawn, released, all_released};
 ghost use Rattle.lock_table.specs.Sound.{IsSound};
 
+use crate::asked::look;
 use crate::book::Book;
-use crate::search;
 use crate::settle::settle;
-use ids_base::lock::{LockEntry, LockMode, LockName, covers, sup};
+use ids_base::lock::{LockEntry, LockMode, LockName, covers};
 use ids_base::numbers::ThreadNo;
 use std::alloc::{AllocError, Global};
 use std::marker::Model;
@@ -56,15 +56,6 @@ impl Model for Locks {
     ghost invariant = { λ s. IsKept s.book s.held s.waiting };
 }
 
-// A request looked at with the line of its name.
-struct Asked {
-    held: Option<LockMode>,
-    lock: LockEntry,
-    is_against: bool,
-    blocker: ThreadNo,
-    before: Option<ThreadNo>,
-}
-
 // Whether the mode held covers the one asked for.
 fn is_covered(held: Option<LockMode>, mode: LockMode) -> bool
     ensures { IsTrue result ↔ IsCovered held mode }
@@ -75,12 +66,96 @@ fn is_covered(held: Option<LockMode>, mode: LockMode) -> bool
     }
 }
 
-// The mode asked for, or for a holder the least that covers it too.
-fn mode_wanted(held: Option<LockMode>, mode: LockMode) -> LockMode
-    ensures { result ≡ mode_wanted held mode }
-{
-    match held {
-        None => mode,
-        Some(mine) => sup(mine, mode),
+impl Locks {
+    /// Asks for a lock. A holder's request is a conversion: it wants the least mode that covers the one held and the one asked
+    /// for, looks at other holders and at earlier waiting conversions only, and stands behind these and before all others.
+    ///
+    /// The first of these lines answers. The lines on a deadlock and on a wait of no ticks belong to the caller: a deadlock is looked
+    /// for before a call that is to wait, and a wait of no ticks is withdrawn after it.
+    /// 1. `Granted`, where the mode held covers the one asked for; nothing changes.
+    /// 2. Where no other holder and no earlier waiter conflicts: `NoLocks` where the thread does not hold the name and the
+    ///    entries are as many as the limit, else `Granted`, and the thread holds the lock in the mode wanted.
+    /// 3. `Locked`, where `wait` is false, by the conflicting other holder with the least number, else the first earlier
+    ///    conflicting waiter.
+    /// 4. `NoLocks`, where the entries are as many as the limit.
+    /// 5. `Waits`, and the thread stands in the queue.
+    pub fn request(
+        &mut self,
+        thread: ThreadNo,
+        name: LockName,
+        mode: LockMode,
+        wait: bool,
+    ) -> LockAnswer
+        requires { WaitsNowhere self.old thread }
+        ensures covered { IsCovered (mode_held (holders self.old name) thread) mode → (result ≡ LockAnswer.Granted) × (self.new ≡ self.old) }
+        ensures converted { IsSome (mode_held (holders self.old name) thread) → (IsCovered (mode_held (holders self.old name) thread) mode → ⊥) → is_against (line self.old name) thread name mode ≡ false
+            → (result ≡ LockAnswer.Granted) × Becomes self.old self.new name (taken (line self.old name) (wanted (line self.old name) thread name mode)) }
+        ensures granted { mode_held (holders self.old name) thread ≡ None → is_against (line self.old name) thread name mode ≡ false → is_full self.old ≡ false
+            → (result ≡ LockAnswer.Granted) × Becomes self.old self.new name (taken (line self.old name) (wanted (line self.old name) thread name mode)) }
+        ensures full { mode_held (holders self.old name) thread ≡ None → is_against (line self.old name) thread name mode ≡ false → is_full self.old ≡ true
+            → (result ≡ LockAnswer.NoLocks self.old.limit) × (self.new ≡ self.old) }
+        ensures locked { (IsCovered (mode_held (holders self.old name) thread) mode → ⊥) → is_against (line self.old name) thread name mode ≡ true → wait ≡ false
+            → (result ≡ LockAnswer.Locked (blocker (holders self.old name) (earlier (line self.old name) thread) (wanted (line self.old name) thread name mode))) × (self.new ≡ self.old) }
+        ensures no_room { (IsCovered (mode_held (holders self.old name) thread) mode → ⊥) → is_against (line self.old name) thread name mode ≡ true → wait ≡ true → is_full self.old ≡ true
+            → (result ≡ LockAnswer.NoLocks self.old.limit) × (self.new ≡ self.old) }
+        ensures waits { (IsCovered (mode_held (holders self.old name) thread) mode → ⊥) → is_against (line self.old name) thread name mode ≡ true → wait ≡ true → is_full self.old ≡ false
+            → (result ≡ LockAnswer.Waits) × Becomes self.old self.new name (queued (line self.old name) (wanted (line self.old name) thread name mode)) }
+    {
+        let asked = look(
+            &self.book,
+            &mut self.held,
+            &mut self.waiting,
+            thread,
+            &name,
+            mode,
+        );
+        if is_covered(asked.held, mode) {
+            return LockAnswer::Granted;
+        }
+        if !asked.is_against {
+            if asked.held.is_none() && self.book.is_full() {
+                return LockAnswer::NoLocks {
+                    limit: self.book.limit,
+                };
+            }
+            self.book.take(asked.lock);
+            return LockAnswer::Granted;
+        }
+        if !wait {
+            return LockAnswer::Locked { by: asked.blocker };
+        }
+        if self.book.is_full() {
+            return LockAnswer::NoLocks {
+                limit: self.book.limit,
+            };
+        }
+        self.book.enqueue(asked.lock, asked.before);
+        LockAnswer::Waits
+    }
+
+    /// The lock that the thread waits for, with the mode that it wants; none exactly where it waits for none.
+    pub fn waits_for(&self, thread: ThreadNo) -> Option<LockEntry>
+        ensures some { (e : Entry) → result ≡ Some e → (e.thread ≡ thread) × WaitsAt self.now thread e.name }
+        ensures none { result ≡ None → WaitsNowhere self.now thread }
+    {
+        self.book.entry_of(true, thread)
+    }
+
+    /// Gives back a lock that the thread holds. Waiters that nothing is against any more have their locks.
+    pub fn release_one(&mut self, thread: ThreadNo, name: LockName)
+        requires { has_thread thread (holders self.old name) ≡ true }
+        ensures { Becomes self.old self.new name (released (line self.old name) thread) }
+    {
+        self.book.release(thread, &name);
+        settle(&mut self.book, &mut self.held, &mut self.waiting, &name);
+    }
+
+    /// A thread whose lock was granted in a queue and that was not told yet, in the order of the grants; none exactly where
+    /// none is left to wake.
+    pub fn next_granted(&mut self) -> Option<ThreadNo>
+        ensures none { result ≡ None → (self.old.granted ≡ []) × (self.new ≡ self.old) }
+        ensures told { (woken : ℕ) → result ≡ Some woken → IsTold self.old self.new woken }
+    {
+        self.book.next_told()
     }
 }
