@@ -6,5 +6,6 @@ pub mod Lines
 pub mod Names
 pub mod Searching
 pub mod Settling
+pub mod Table
 pub mod Waiters
 pub mod Walks

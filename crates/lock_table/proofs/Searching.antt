@@ -1,5 +1,5 @@
 -- Searches along a list.
-use Rattle.std.proofs.Common.{◌≡◌, ◌∙◌, sym, ap, subst, refl, ℕ, zero, suc, ◌+◌, ◌<◌, ◌≤◌, ◌==◌, Bool, true, false, cond, ◌||◌, ◌&&◌, not, List, [], ◌∷◌, ◌++◌, length, take, drop, get_or, map, is_some, Option, Some, None, arith, add-one, slice_index_or, append_assoc, append-nil, length-append, length-take-le, length-drop}
+use Rattle.std.proofs.Common.{◌≡◌, ◌∙◌, sym, ap, subst, refl, ℕ, zero, suc, ◌+◌, ◌<◌, ◌≤◌, ◌==◌, Bool, true, false, cond, ◌||◌, ◌&&◌, not, List, [], ◌∷◌, ◌++◌, length, take, drop, get_or, map, is_some, Option, Some, None, arith, add-one, slice_index_or, append_assoc, append-nil, length-append, length-take-le, length-drop, unwrap_or, position}
 use Rattle.std.proofs.Math.Seq.{take-append_seam, drop-append_seam, drop-length}
 use Rattle.std.proofs.lemmas.List.{drop_more, take_more}
 use Rattle.std.specs.List.{list_any, filter, find, remove}
@@ -9,7 +9,7 @@ use Rattle.ids_base.specs.declared.lock.LockEntry.{LockEntry}
 use Rattle.ids_base.specs.declared.lock.LockName.{LockName}
 use Rattle.ids_base.specs.Waits.{conflicts}
 use Rattle.lock_table.specs.Table.{is_blocked, first_free, Place}
-use Rattle.lock_table.specs.Requests.{least_against, lower}
+use Rattle.lock_table.specs.Requests.{least_against, lower, up_to}
 
 pub any-append : {X : Type 0} (p : X → Bool) (xs ys : List X) → list_any p (xs ++ ys) ≡ (list_any p xs || list_any p ys)
 any-append p [] ys = refl
@@ -48,3 +48,13 @@ length-dropped p (x ∷ xs) = by-first (p x) x (filter p xs) xs (length-dropped 
     by-first true x ys xs h = omega arith
     by-first false x ys xs h = omega arith
 
+
+pub taken-up_to : (p : LockEntry → Bool) (xs : List LockEntry) → take (unwrap_or (position p xs) (length xs)) xs ≡ up_to p xs
+taken-up_to p [] = refl
+taken-up_to p (x ∷ xs) = by-test (p x) (position p xs) refl (taken-up_to p xs)
+  where
+    by-test : (b : Bool) (o : Option ℕ) → position p xs ≡ o → take (unwrap_or (position p xs) (length xs)) xs ≡ up_to p xs
+        → take (unwrap_or (cond b (Some 0) (option_map suc (position p xs))) (suc (length xs))) (x ∷ xs) ≡ cond b [] (x ∷ up_to p xs)
+    by-test true o is more = refl
+    by-test false None is more = ap (λ v. take (unwrap_or (option_map suc v) (suc (length xs))) (x ∷ xs)) is ∙ ap (λ v. x ∷ v) (sym (ap (λ v. take (unwrap_or v (length xs)) xs) is) ∙ more)
+    by-test false (Some k) is more = ap (λ v. take (unwrap_or (option_map suc v) (suc (length xs))) (x ∷ xs)) is ∙ ap (λ v. x ∷ v) (sym (ap (λ v. take (unwrap_or v (length xs)) xs) is) ∙ more)

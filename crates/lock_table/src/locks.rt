@@ -1,5 +1,5 @@
 //! The lock table.
-ghost use Rattle.std.specs.Prelude.{◌≡◌, ◌≢◌, ◌+◌, ◌<◌, ◌≤◌, ◌++◌, ◌∷◌, [], true, false, ℕ, IfOk, None, Some, IsSome, IsTrue, ◌↔◌, length, vec_capacity};
+ghost use Rattle.std.specs.Prelude.{◌≡◌, ◌≢◌, ◌+◌, ◌<◌, ◌≤◌, ◌++◌, ◌∷◌, [], true, false, ℕ, IfOk, None, Some, IsSome, IsTrue, ◌↔◌, length, vec_capacity, not, is_some, ◌&&◌};
 ghost use Rattle.std.specs.Option.{option_map};
 ghost use Rattle.std.specs.List.{find};
 ghost use Rattle.ids_base.specs.declared.lock.LockEntry.{LockEntry as Entry};
@@ -66,6 +66,13 @@ fn is_covered(held: Option<LockMode>, mode: LockMode) -> bool
     }
 }
 
+// Whether a grant would need an entry that is not there.
+fn lacks_room(held: Option<LockMode>, is_full: bool) -> bool
+    ensures { result ≡ (not (is_some held) && is_full) }
+{
+    held.is_none() && is_full
+}
+
 impl Locks {
     /// Asks for a lock. A holder's request is a conversion: it wants the least mode that covers the one held and the one asked
     /// for, looks at other holders and at earlier waiting conversions only, and stands behind these and before all others.
@@ -113,7 +120,7 @@ impl Locks {
             return LockAnswer::Granted;
         }
         if !asked.is_against {
-            if asked.held.is_none() && self.book.is_full() {
+            if lacks_room(asked.held, self.book.is_full()) {
                 return LockAnswer::NoLocks {
                     limit: self.book.limit,
                 };
@@ -139,6 +146,15 @@ impl Locks {
         ensures none { result ≡ None → WaitsNowhere self.now thread }
     {
         self.book.entry_of(true, thread)
+    }
+
+    /// Takes a waiting thread out of its queue. Waiters that nothing is against any more have their locks.
+    pub fn withdraw(&mut self, thread: ThreadNo, name: LockName)
+        requires { WaitsAt self.old thread name }
+        ensures { Becomes self.old self.new name (withdrawn (line self.old name) thread) }
+    {
+        self.book.leave(thread, &name);
+        settle(&mut self.book, &mut self.held, &mut self.waiting, &name);
     }
 
     /// Gives back a lock that the thread holds. Waiters that nothing is against any more have their locks.
