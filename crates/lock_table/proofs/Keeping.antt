@@ -9,7 +9,7 @@ use Rattle.link_lists.proofs.Members.{has-cons, has-first, has-later, has-both, 
 use Rattle.lock_table.specs.Buckets.{bucket_of, thread_bucket, name_list, thread_list}
 use Rattle.lock_table.specs.Chains.{entry_of, entries_of, no_entry}
 use Rattle.lock_table.specs.Moves.{Moves}
-use Rattle.lock_table.specs.Kept.{Kept, IsPlaced, count_of}
+use Rattle.lock_table.specs.Kept.{Kept, IsPlaced, count_of, joined}
 use Rattle.lock_table.proofs.Counts.{count-longer, count-same}
 use Rattle.lock_table.proofs.Walks.{has-first_of}
 
@@ -323,3 +323,45 @@ thread-placed limit buckets es names threads told used kept waits x (Some l) lt 
         → home_at threads x ≡ Some (thread_bucket buckets (entry_of es x).thread) → home_at names x ≡ Some (name_list buckets waits (entry_of es x).name)
     as-holder false t n u = n
     as-holder true t n u = absurd (let e = same-some _ _ (sym t ∙ u) in let d = thread-below buckets (entry_of es x).thread kept.some_buckets in omega (arith, e, d))
+
+-- where all lists are empty, no id is in one
+pub no-home : (lists : Lists) → IsSound lists → ((l : ℕ) → list_at lists l ≡ []) → (x : ℕ) → home_at lists x ≡ None
+no-home lists s empty x = by-home (home_at lists x) refl
+  where
+    by-home : (o : Option ℕ) → home_at lists x ≡ o → home_at lists x ≡ None
+    by-home None h = h
+    by-home (Some l) h = absurd (let e = sym ((s.home l x).0 h) ∙ ap (has x) (empty l) in cc)
+
+joined-empty : (n : ℕ) (f : ℕ → List LockEntry) → ((k : ℕ) → k < n → f k ≡ []) → joined n f ≡ []
+joined-empty zero f h = refl
+joined-empty (suc n) f h = ap (λ v. v ++ f n) (joined-empty n f (λ k lt. h k (omega arith))) ∙ h n (omega arith)
+
+module _ (limit buckets : ℕ) (es : List LockEntry) (names threads told : Lists) (some : 0 < buckets) (few : buckets ≤ 536870912) (places : length es ≡ limit)
+    (name_ids : id_count names ≡ limit) (thread_ids : id_count threads ≡ limit) (told_ids : id_count told ≡ limit)
+    (name_lists : list_count names ≡ buckets + buckets + 1) (thread_lists : list_count threads ≡ buckets + buckets) (told_lists : list_count told ≡ 1)
+    (all : length (list_at names (buckets + buckets)) ≡ limit) (others : (l : ℕ) → l ≢ buckets + buckets → list_at names l ≡ []) (homes : (x : ℕ) → x < limit → home_at names x ≡ Some (buckets + buckets))
+    (threads_sound : IsSound threads) (threads_empty : (l : ℕ) → list_at threads l ≡ []) (told_sound : IsSound told) (told_empty : (l : ℕ) → list_at told l ≡ []) where
+  pub lists-empty : (k : ℕ) → k < buckets + buckets → entries_of es (list_at names k) ≡ []
+  lists-empty k lt = ap (entries_of es) (others k (λ q. omega (arith, q, lt)))
+
+  pub held-empty : joined buckets (λ k. entries_of es (list_at names k)) ≡ []
+  held-empty = joined-empty buckets (λ k. entries_of es (list_at names k)) (λ k lt. lists-empty k (omega arith))
+
+  pub waiting-empty : joined buckets (λ k. entries_of es (list_at names (buckets + k))) ≡ []
+  waiting-empty = joined-empty buckets (λ k. entries_of es (list_at names (buckets + k))) (λ k lt. lists-empty (buckets + k) (omega arith))
+
+  pub new-kept : Kept limit buckets es names threads told 0
+  new-kept = record {
+    some_buckets = some;
+    few_buckets = few;
+    entry_places = places;
+    name_ids = name_ids;
+    thread_ids = thread_ids;
+    told_ids = told_ids;
+    name_lists = name_lists;
+    thread_lists = thread_lists;
+    told_lists = told_lists;
+    each = λ x lt. placed-unused buckets (entry_of es x) (home_at names x) (home_at threads x) (home_at told x) some (homes x lt) (no-home threads threads_sound threads_empty x) (no-home told told_sound told_empty x);
+    free = omega (arith, all);
+    count = let a = ap length held-empty in let b = ap length waiting-empty in omega (arith, a, b);
+  }

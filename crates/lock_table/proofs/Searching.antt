@@ -1,8 +1,9 @@
 -- Searches along a list.
-use Rattle.std.proofs.Common.{◌≡◌, ◌∙◌, sym, ap, subst, refl, ℕ, zero, suc, ◌+◌, ◌<◌, ◌≤◌, ◌==◌, Bool, true, false, cond, ◌||◌, ◌&&◌, not, List, [], ◌∷◌, ◌++◌, length, take, drop, get_or, map, is_some, Option, Some, None, arith, add-one, slice_index_or, append_assoc, append-nil, length-append, length-take-le, length-drop, unwrap_or, position}
+use Rattle.std.proofs.Common.{◌≡◌, ◌∙◌, sym, ap, subst, refl, ℕ, zero, suc, ◌+◌, ◌<◌, ◌≤◌, ◌==◌, Bool, true, false, cond, ◌||◌, ◌&&◌, not, List, [], ◌∷◌, ◌++◌, length, take, drop, get_or, map, is_some, Option, Some, None, arith, add-one, slice_index_or, append_assoc, append-nil, length-append, length-take-le, length-drop, unwrap_or, position, inl, inr}
+use Rattle.std.proofs.lemmas.Bool.Decides.{leb_tells, nat_tests}
 use Rattle.std.proofs.Math.Seq.{take-append_seam, drop-append_seam, drop-length}
 use Rattle.std.proofs.lemmas.List.{drop_more, take_more}
-use Rattle.std.specs.List.{list_any, filter, find, remove}
+use Rattle.std.specs.List.{list_any, filter, find, remove, position_or_len}
 use Rattle.std.specs.Option.{option_map, option_map_or}
 use Rattle.std.proofs.lemmas.List.Elements.{filter-append}
 use Rattle.ids_base.specs.declared.lock.LockEntry.{LockEntry}
@@ -49,12 +50,25 @@ length-dropped p (x ∷ xs) = by-first (p x) x (filter p xs) xs (length-dropped 
     by-first false x ys xs h = omega arith
 
 
-pub taken-up_to : (p : LockEntry → Bool) (xs : List LockEntry) → take (unwrap_or (position p xs) (length xs)) xs ≡ up_to p xs
-taken-up_to p [] = refl
-taken-up_to p (x ∷ xs) = by-test (p x) (position p xs) refl (taken-up_to p xs)
+up_to-len : (p : LockEntry → Bool) (xs : List LockEntry) → take (position_or_len p xs) xs ≡ up_to p xs
+up_to-len p [] = refl
+up_to-len p (x ∷ xs) = by-test (p x) (up_to-len p xs)
   where
-    by-test : (b : Bool) (o : Option ℕ) → position p xs ≡ o → take (unwrap_or (position p xs) (length xs)) xs ≡ up_to p xs
-        → take (unwrap_or (cond b (Some 0) (option_map suc (position p xs))) (suc (length xs))) (x ∷ xs) ≡ cond b [] (x ∷ up_to p xs)
-    by-test true o is more = refl
-    by-test false None is more = ap (λ v. take (unwrap_or (option_map suc v) (suc (length xs))) (x ∷ xs)) is ∙ ap (λ v. x ∷ v) (sym (ap (λ v. take (unwrap_or v (length xs)) xs) is) ∙ more)
-    by-test false (Some k) is more = ap (λ v. take (unwrap_or (option_map suc v) (suc (length xs))) (x ∷ xs)) is ∙ ap (λ v. x ∷ v) (sym (ap (λ v. take (unwrap_or v (length xs)) xs) is) ∙ more)
+    by-test : (b : Bool) → take (position_or_len p xs) xs ≡ up_to p xs → take (cond (not b) (1 + position_or_len p xs) 0) (x ∷ xs) ≡ cond b [] (x ∷ up_to p xs)
+    by-test true more = refl
+    by-test false more = ap (λ n. take n (x ∷ xs)) (let e : 1 + position_or_len p xs ≡ suc (position_or_len p xs) = omega arith in e) ∙ ap (λ v. x ∷ v) more
+
+within : (p : LockEntry → Bool) (xs : List LockEntry) → position_or_len p xs ≤ length xs
+within p [] = omega arith
+within p (x ∷ xs) = by-test (p x) (within p xs)
+  where
+    by-test : (b : Bool) → position_or_len p xs ≤ length xs → cond (not b) (1 + position_or_len p xs) 0 ≤ suc (length xs)
+    by-test true more = omega arith
+    by-test false more = omega arith
+
+pub taken-up_to : (p : LockEntry → Bool) (xs : List LockEntry) → take (unwrap_or (position p xs) (length xs)) xs ≡ up_to p xs
+taken-up_to p xs = elim (leb_tells (length xs) (position_or_len p xs)) as (λ v. take (unwrap_or (position p xs) (length xs)) xs ≡ up_to p xs) [
+  | inl x ↦ let w = within p xs in let le = x.1 in
+      ap (λ k. take k xs) (let q : unwrap_or (position p xs) (length xs) ≡ position_or_len p xs = grind (arith, nat_tests) in q) ∙ up_to-len p xs
+  | inr y ↦ let lt = y.1 in ap (λ k. take k xs) (let q : unwrap_or (position p xs) (length xs) ≡ position_or_len p xs = grind (arith, nat_tests) in q) ∙ up_to-len p xs
+]

@@ -1,15 +1,16 @@
 //! The entries of a lock table, in room taken once, found by name and by thread.
-ghost use Rattle.std.specs.Prelude.{◌≡◌, ◌≢◌, ℕ, List, Some, None, IsSome, true, false, vec_capacity, ◌+◌, ◌<◌, ◌≤◌, [], ◌∷◌, ◌++◌, length};
-ghost use Rattle.link_lists.specs.Lists.{IsSound};
+ghost use Rattle.std.specs.Prelude.{◌≡◌, ◌≢◌, ℕ, List, Some, None, IsSome, true, false, vec_capacity, ◌+◌, ◌<◌, ◌≤◌, [], ◌∷◌, ◌++◌, length, IfOk};
+ghost use Rattle.link_lists.specs.Lists.{IsSound, list_count, id_count, list_at, home_at, without, SameCounts};
 ghost use Rattle.lock_table.specs.Kept.{Kept};
 ghost use Rattle.lock_table.specs.Props.{sound-prop};
 
 use crate::buckets::{bucket_of, thread_bucket};
 use crate::chains;
 use crate::moves;
-use ids_base::lock::{LockEntry, LockName};
+use ids_base::lock::{LockEntry, LockMode, LockName};
 use ids_base::numbers::ThreadNo;
 use link_lists::Lists;
+use std::alloc::{AllocError, Global};
 
 /// So many entries. Each is unused, or a lock held, or a waiter, and stands so in a list of `names`, by a hash of the name, and in
 /// one of `threads`, by the thread. `told` has the entries of the locks granted in a queue whose threads are to be told.
@@ -28,8 +29,63 @@ pub struct Book {
     ghost kept: { Kept limit buckets entries.items names threads told used },
 }
 
+// So many lists, all empty, and so many ids in none.
+fn empty_lists(alloc: Global, lists: u32, ids: u32) -> Result<Lists, AllocError>
+    requires { 0 < lists }
+    ensures lists { IfOk result (λ v. list_count v ≡ lists) }
+    ensures ids { IfOk result (λ v. id_count v ≡ ids) }
+    ensures empty { IfOk result (λ v. (l : ℕ) → list_at v l ≡ []) }
+    ensures sound { IfOk result (λ v. IsSound v) }
+{
+    let mut made = Lists::new(alloc, lists)?;
+    for _id in 0..ids {
+        made.add_id()?;
+    }
+    let _ = made.front(0);
+    Ok(made)
+}
+
+// Puts all ids into one of the lists.
+fn put_all(lists: &mut Lists, list: u32)
+    requires list { list < list_count lists.old }
+    requires empty { (l : ℕ) → list_at lists.old l ≡ [] }
+    requires sound { IsSound lists.old }
+    ensures all { length (list_at lists.new list) ≡ id_count lists.old }
+    ensures others { (l : ℕ) → l ≢ list → list_at lists.new l ≡ [] }
+    ensures homes { (x : ℕ) → x < id_count lists.old → home_at lists.new x ≡ Some list }
+    ensures counts { SameCounts lists.old lists.new }
+    ensures sound { IsSound lists.new }
+{
+    for id in 0..lists.id_count() {
+        lists.push_back(list, id);
+    }
+    let _ = lists.front(list);
+}
+
+// So many lists, with so many ids, all in one of the lists.
+fn filled_lists(alloc: Global, lists: u32, ids: u32, list: u32) -> Result<Lists, AllocError>
+    requires { list < lists }
+    ensures lists { IfOk result (λ v. list_count v ≡ lists) }
+    ensures ids { IfOk result (λ v. id_count v ≡ ids) }
+    ensures all { IfOk result (λ v. length (list_at v list) ≡ ids) }
+    ensures others { IfOk result (λ v. (l : ℕ) → l ≢ list → list_at v l ≡ []) }
+    ensures homes { IfOk result (λ v. (x : ℕ) → x < ids → home_at v x ≡ Some list) }
+    ensures sound { IfOk result (λ v. IsSound v) }
+{
+    let mut made = empty_lists(alloc, lists, ids)?;
+    put_all(&mut made, list);
+    Ok(made)
+}
+
+fn bucket_count(limit: u32) -> u32
+    requires { limit ≤ 536870912 }
+    ensures some { 0 < result }
+    ensures few { result ≤ 536870912 }
+{
+    if limit == 0 { 1 } else { limit }
+}
+
 impl Book {
-    ghost use Rattle.link_lists.specs.Lists.{list_at, home_at, without};
     ghost use Rattle.lock_table.specs.Book.{in_list, granted_in, table_of, ListChanges, IsNew};
     ghost use Rattle.std.specs.List.{list_any};
     ghost use Rattle.lock_table.specs.Sound.{Apart, same_thread, IsLoose};
@@ -39,6 +95,33 @@ impl Book {
     ghost use Rattle.lock_table.specs.Requests.{with_holder, with_waiter, unheld, unqueued, with_granted, promoted, taken};
     ghost use Rattle.lock_table.specs.Chains.{entry_of, entries_of, is_sought, IsFirst};
     ghost use Rattle.lock_table.specs.Buckets.{bucket_of as bucket, thread_bucket, name_list, thread_list};
+
+    /// A book without entries in use, with room for so many. It takes memory in proportion.
+    pub fn new(alloc: Global, limit: u32) -> Result<Book, AllocError>
+        ensures { IfOk result (λ b. table_of b ≡ record { limit = limit; held = []; waiting = []; granted = [] }) }
+    {
+        if limit > 536870912 {
+            return Err(AllocError);
+        }
+        let buckets = bucket_count(limit);
+        let unused = LockEntry {
+            thread: 0,
+            name: LockName {
+                table: 0,
+                key: None,
+            },
+            mode: LockMode::IS,
+        };
+        Ok(Book {
+            limit,
+            buckets,
+            entries: vec![in alloc; unused; limit as usize]?,
+            names: filled_lists(alloc, buckets + buckets + 1, limit, buckets + buckets)?,
+            threads: empty_lists(alloc, buckets + buckets, limit)?,
+            told: empty_lists(alloc, 1, limit)?,
+            used: 0,
+        })
+    }
 
     // The list of a name's holders, or of its queue.
     fn name_list(&self, waits: bool, name: &LockName) -> u32

@@ -74,6 +74,18 @@ fn lacks_room(held: Option<LockMode>, is_full: bool) -> bool
 }
 
 impl Locks {
+    /// A table without entries, with room for `limit`. It takes memory in proportion to the limit.
+    pub fn new(alloc: Global, limit: u32) -> Result<Locks, AllocError>
+        ensures limit { IfOk result (λ t. t.limit ≡ limit) }
+        ensures empty { IfOk result (λ t. (t.held ≡ []) × (t.waiting ≡ []) × (t.granted ≡ [])) }
+    {
+        Ok(Locks {
+            book: Book::new(alloc, limit)?,
+            held: Vec::with_capacity(alloc, limit as usize)?,
+            waiting: Vec::with_capacity(alloc, limit as usize)?,
+        })
+    }
+
     /// Asks for a lock. A holder's request is a conversion: it wants the least mode that covers the one held and the one asked
     /// for, looks at other holders and at earlier waiting conversions only, and stands behind these and before all others.
     ///
@@ -149,12 +161,17 @@ impl Locks {
     }
 
     /// Takes a waiting thread out of its queue. Waiters that nothing is against any more have their locks.
-    pub fn withdraw(&mut self, thread: ThreadNo, name: LockName)
-        requires { WaitsAt self.old thread name }
-        ensures { Becomes self.old self.new name (withdrawn (line self.old name) thread) }
+    pub fn withdraw(&mut self, thread: ThreadNo)
+        requires { (name : Name) × WaitsAt self.old thread name }
+        ensures { (name : Name) → WaitsAt self.old thread name → Becomes self.old self.new name (withdrawn (line self.old name) thread) }
     {
-        self.book.leave(thread, &name);
-        settle(&mut self.book, &mut self.held, &mut self.waiting, &name);
+        match self.book.entry_of(true, thread) {
+            Some(entry) => {
+                self.book.leave(thread, &entry.name);
+                settle(&mut self.book, &mut self.held, &mut self.waiting, &entry.name);
+            }
+            None => unreachable!(),
+        }
     }
 
     /// Gives back a lock that the thread holds. Waiters that nothing is against any more have their locks.

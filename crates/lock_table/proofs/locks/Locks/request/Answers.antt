@@ -1,9 +1,15 @@
-use Rattle.std.proofs.Common.{◌≡◌, ◌∙◌, ◌≤◌, ◌<◌, ap, sym, subst, arith, vec_capacity, true, false, refl, not, is_some, ◌&&◌}
+use Rattle.std.proofs.Common.{◌≡◌, ◌∙◌, ◌≤◌, ◌<◌, ap, sym, subst, arith, vec_capacity, true, false, refl, not, is_some, ◌&&◌, Bool}
 use Rattle.lock_table.specs.Book.{table_of}
 use Rattle.lock_table.specs.Table.{line, holders, queue, has_thread, is_full, WaitsNowhere, Becomes}
 use Rattle.lock_table.specs.Requests.{wanted, taken, queued, with_waiter, is_overtaken}
 use Rattle.lock_table.proofs.Table.{has-room, mode-none, find-has, after-taken, as-queued, after-queued}
 use Rattle.lock_table.proofs.locks.Locks.request.Goals as goal
+
+not-back : (a b : Bool) → not a ≡ not b → a ≡ b
+not-back true true h = refl
+not-back true false h = cc
+not-back false true h = cc
+not-back false false h = refl
 
 pub take-requires-clause-room : goal.take-requires-clause-room
 take-requires-clause-room c = λ h.
@@ -22,7 +28,7 @@ invariant_of-self-then-not-asked c =
     let w = c.self.invariant.waiting_room in
     let p = c.look-asked.ensures.held in
     let q = c.look-asked.ensures.waiting in
-    record { sound = after-taken t c.take.new.self c.args.thread c.args.name c.args.mode c.self.invariant.sound line-is (sym c.look-asked.ensures.against ∙ c.if-not-asked.true); held_room = omega (arith, e, h, p); waiting_room = omega (arith, e, w, q) }
+    record { sound = after-taken t c.take.new.self c.args.thread c.args.name c.args.mode c.self.invariant.sound line-is (sym c.look-asked.ensures.against ∙ not-back _ false c.if-not-asked.true); held_room = omega (arith, e, h, p); waiting_room = omega (arith, e, w, q) }
 
 pub enqueue-requires-clause-there : goal.enqueue-requires-clause-there
 enqueue-requires-clause-there c = λ n h.
@@ -43,7 +49,7 @@ invariant_of-self-2 c =
     let g = c.self.invariant.waiting_room in
     let p = c.look-asked.ensures.held in
     let q = c.look-asked.ensures.waiting in
-    record { sound = after-queued t c.enqueue.new.self c.args.thread c.args.name c.args.mode c.self.invariant.sound line-is (sym c.look-asked.ensures.against ∙ c.if-not-asked.false) (subst (λ v. WaitsNowhere v c.args.thread) (sym c.self.view_is) c.requires); held_room = omega (arith, e, h, p); waiting_room = omega (arith, e, g, q) }
+    record { sound = after-queued t c.enqueue.new.self c.args.thread c.args.name c.args.mode c.self.invariant.sound line-is (sym c.look-asked.ensures.against ∙ not-back _ true c.if-not-asked.false) (subst (λ v. WaitsNowhere v c.args.thread) (sym c.self.view_is) c.requires); held_room = omega (arith, e, h, p); waiting_room = omega (arith, e, g, q) }
 
 pub returns-clause-waits : goal.returns-clause-waits
 returns-clause-waits c = λ f g h i.
