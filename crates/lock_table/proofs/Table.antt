@@ -1,18 +1,20 @@
 -- The whole table after a call.
 use Rattle.std.proofs.Common.{◌≡◌, ◌≢◌, ◌∙◌, sym, ap, subst, refl, ℕ, zero, suc, ◌+◌, ◌<◌, ◌≤◌, Bool, true, false, cond, ◌||◌, ◌&&◌, not, List, [], ◌∷◌, ◌++◌, length, Option, Some, None, is_some, ◌⊎◌, inl, inr, arith}
 use Rattle.std.specs.List.{list_any, filter, find}
-use Rattle.std.specs.Option.{option_map}
+use Rattle.std.specs.Option.{option_map, option_map_or}
 use Rattle.std.proofs.lemmas.Bool.Decides.{leb_tells, Decides-eqb}
 use Rattle.ids_base.specs.declared.lock.LockEntry.{LockEntry}
 use Rattle.ids_base.specs.declared.lock.LockName.{LockName}
 use Rattle.ids_base.specs.declared.lock.LockMode.{LockMode}
 use Rattle.lock_table.specs.declared.book.Book.{Book}
 use Rattle.lock_table.specs.Book.{table_of}
-use Rattle.lock_table.specs.Table.{Table, Line, line, holders, queue, is_of, has_thread, is_full, entry_count, mode_held, first_free, settled, Becomes, WaitsNowhere, IsTold}
-use Rattle.lock_table.specs.Requests.{put_first, with_waiter, queued, is_overtaken, unheld, unqueued, wanted, taken, is_against}
+use Rattle.lock_table.specs.Table.{Table, Line, Place, line, holders, queue, is_of, has_thread, is_full, entry_count, mode_held, first_free, settled, grant_up_to, with_grant, without_thread, Becomes, WaitsNowhere, IsTold}
+use Rattle.lock_table.specs.Requests.{put_first, with_waiter, queued, is_overtaken, unheld, unqueued, released, withdrawn, wanted, taken, is_against}
 use Rattle.lock_table.specs.Sound.{IsLoose, IsSettled, IsSound}
-use Rattle.lock_table.proofs.Waiters.{or-true, or-left, or-right}
-use Rattle.lock_table.proofs.Settling.{put-before-is, settled-ok, unheld-loose, unqueued-loose, taken-settled, queued-settled}
+use Rattle.lock_table.proofs.Waiters.{or-true, or-left, or-right, any-less, any-filter, any-filtered, found}
+use Rattle.lock_table.proofs.Searching.{any-append}
+use Rattle.lock_table.proofs.Filters.{without-none, not-true}
+use Rattle.lock_table.proofs.Settling.{put-before-is, settled-ok, unheld-loose, unqueued-loose, taken-settled, queued-settled, settle-end}
 use Rattle.lock_table.proofs.Grants.{sound-after, settled-fewer}
 
 pub few-entries : (b : Book) → entry_count (table_of b) ≤ b.limit
@@ -89,3 +91,48 @@ after-withdrawn t b thread name s c =
     let l = unqueued (line t name) thread in
     sound-after t (table_of b) name _ s c (settled-ok l (unqueued-loose (line t name) thread (s.lines name).loose)) (few-entries b)
     (λ n h. inl (any-without (is_of n) (λ e. not (is_of thread e)) (queue t name) (settled-fewer n (length l.queue) l h)))
+
+-- ---- all locks of a thread
+pub record IsOut (thread : ℕ) (l : Line) : Type 0 where
+  pub holders : has_thread thread l.holders ≡ false
+  pub queue : has_thread thread l.queue ≡ false
+  pub granted : has_thread thread l.granted ≡ false
+
+with-one : (thread : ℕ) (w : LockEntry) (xs : List LockEntry) → has_thread thread xs ≡ false → is_of thread w ≡ false → has_thread thread (without_thread w.thread xs ++ w ∷ []) ≡ false
+with-one thread w xs h g = any-append (is_of thread) (without_thread w.thread xs) (w ∷ []) ∙ ap (λ b. b || (is_of thread w || false)) (any-filter (is_of thread) (λ e. not (is_of w.thread e)) xs h) ∙ ap (λ b. b || false) g
+
+out-on : (thread n : ℕ) (l : Line) (o : Option Place) → first_free l.holders [] l.queue ≡ o → IsOut thread l → ((u : Line) → IsOut thread u → IsOut thread (grant_up_to n u)) → IsOut thread (option_map_or (λ p. grant_up_to n (with_grant l p)) o l)
+out-on thread n l None is out more = out
+out-on thread n l (Some p) is out more =
+    let f = found l.holders [] l.queue p is in
+    let less = any-less (is_of thread) p.waiter p.before p.behind (sym (ap (has_thread thread) f.stands) ∙ out.queue) in
+    more (with_grant l p) (record { holders = with-one thread p.waiter l.holders out.holders less.0; queue = less.1; granted = with-one thread p.waiter l.granted out.granted less.0 })
+
+out-granted : (thread n : ℕ) (l : Line) → IsOut thread l → IsOut thread (grant_up_to n l)
+out-granted thread zero l out = out
+out-granted thread (suc n) l out = out-on thread n l (first_free l.holders [] l.queue) refl out (λ u k. out-granted thread n u k)
+
+out-unheld : (thread : ℕ) (l : Line) → has_thread thread l.queue ≡ false → IsOut thread (unheld l thread)
+out-unheld thread l h = record { holders = any-filtered (is_of thread) l.holders; queue = h; granted = any-filtered (is_of thread) l.granted }
+
+unheld-out : (thread : ℕ) (l : Line) → IsOut thread l → unheld l thread ≡ l
+unheld-out thread l out =
+    let made : List LockEntry → List LockEntry → Line = λ a b. record { holders = a; queue = l.queue; granted = b } in
+    ap (λ v. made v (without_thread thread l.granted)) (without-none thread l.holders out.holders) ∙ ap (made l.holders) (without-none thread l.granted out.granted)
+
+pub released-out : (thread : ℕ) (l : Line) → IsOut thread l → first_free l.holders [] l.queue ≡ None → released l thread ≡ l
+released-out thread l out ok = ap settled (unheld-out thread l out) ∙ settle-end l ok
+
+pub released-again : (thread : ℕ) (l : Line) → has_thread thread l.queue ≡ false → IsLoose l → released (released l thread) thread ≡ released l thread
+released-again thread l h loose =
+    let m = unheld l thread in
+    released-out thread (settled m) (out-granted thread (length m.queue) m (out-unheld thread l h)) (settled-ok m (unheld-loose l thread loose)).settled
+
+pub withdrawn-none : (thread : ℕ) (l : Line) → has_thread thread l.queue ≡ false → IsSettled l → withdrawn l thread ≡ l
+withdrawn-none thread l h s = ap settled (ap (λ v. record l { queue = v }) (without-none thread l.queue h)) ∙ settle-end l s.settled
+
+pub out-of-queue : (thread : ℕ) (l : Line) → has_thread thread (withdrawn l thread).queue ≡ false
+out-of-queue thread l = not-true _ (λ h. let g = settled-fewer thread (length (without_thread thread l.queue)) (unqueued l thread) h in let k = any-filtered (is_of thread) l.queue in cc)
+
+pub out-of-released : (thread : ℕ) (l : Line) → has_thread thread l.queue ≡ false → has_thread thread (released l thread).queue ≡ false
+out-of-released thread l h = (out-granted thread (length l.queue) (unheld l thread) (out-unheld thread l h)).queue

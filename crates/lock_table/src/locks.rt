@@ -174,13 +174,51 @@ impl Locks {
         }
     }
 
+    /// A lock that the thread holds; none exactly where it holds none.
+    pub fn lock_of(&self, thread: ThreadNo) -> Option<LockEntry>
+        ensures some { (e : Entry) → result ≡ Some e → (e.thread ≡ thread) × (has_thread thread (holders self.now e.name) ≡ true) }
+        ensures none { result ≡ None → (name : Name) → has_thread thread (holders self.now name) ≡ false }
+        ensures none_told { result ≡ None → (name : Name) → has_thread thread (line self.now name).granted ≡ false }
+        ensures sound { IsSound self.now }
+    {
+        self.book.entry_of(false, thread)
+    }
+
     /// Gives back a lock that the thread holds. Waiters that nothing is against any more have their locks.
     pub fn release_one(&mut self, thread: ThreadNo, name: LockName)
         requires { has_thread thread (holders self.old name) ≡ true }
-        ensures { Becomes self.old self.new name (released (line self.old name) thread) }
+        ensures line { Becomes self.old self.new name (released (line self.old name) thread) }
+        ensures fewer { entry_count self.new + 1 ≤ entry_count self.old }
     {
         self.book.release(thread, &name);
         settle(&mut self.book, &mut self.held, &mut self.waiting, &name);
+    }
+
+    /// Gives back all locks of the thread; if it waits, it waits no more. Waiters that nothing is against any more have their locks.
+    pub fn release_all(&mut self, thread: ThreadNo)
+        ensures lines { (name : Name) → line self.new name ≡ all_released (line self.old name) thread }
+        ensures limit { self.new.limit ≡ self.old.limit }
+        ensures none_held { (name : Name) → has_thread thread (holders self.new name) ≡ false }
+        ensures none_waits { WaitsNowhere self.new thread }
+    {
+        self.leave_queue(thread);
+        while let Some(entry) = self.lock_of(thread) {
+            self.release_one(thread, entry.name);
+        }
+    }
+
+    // The thread waits no more, if it waits.
+    fn leave_queue(&mut self, thread: ThreadNo)
+        ensures lines { (name : Name) → line self.new name ≡ withdrawn (line self.old name) thread }
+        ensures limit { self.new.limit ≡ self.old.limit }
+        ensures none_waits { WaitsNowhere self.new thread }
+        ensures sound { IsSound self.new }
+    {
+        match self.waits_for(thread) {
+            Some(_) => self.withdraw(thread),
+            None => {}
+        }
+        let _ = self.lock_of(thread);
     }
 
     /// A thread whose lock was granted in a queue and that was not told yet, in the order of the grants; none exactly where

@@ -36,8 +36,8 @@ invariant_of-self c =
     let b = c.settle.ensures.waiting in
     record { sound = after-withdrawn t c.settle.new.book c.args.thread n c.self.invariant.sound both; held_room = omega (arith, e, h, a); waiting_room = omega (arith, e, w, b) }
 
-pub returns-in-Some : goal.returns-in-Some
-returns-in-Some c = λ name waits.
+pub returns : goal.returns
+returns c = λ name waits.
     let t = table_of c.self.inside.book in
     let n = c.in-Some.entry.name in
     let both = becomes-then t (table_of c.leave.new.self) (table_of c.settle.new.book) n _ settled c.leave.ensures.line c.settle.ensures.line in
