@@ -62,7 +62,7 @@ pub settled-fewer : (thread : ℕ) (n : ℕ) (l : Line) → has_thread thread (g
 settled-fewer thread zero l h = h
 settled-fewer thread (suc n) l h = fewer-by thread n l (first_free l.holders [] l.queue) refl (λ u k. settled-fewer thread n u k) h
 
-same-name-or : (a b : LockName) → (a ≡ b) ⊎ (a ≢ b)
+pub same-name-or : (a b : LockName) → (a ≡ b) ⊎ (a ≢ b)
 same-name-or a b = by-test (is_same_name a b) refl
   where
     by-test : (c : Bool) → is_same_name a b ≡ c → (a ≡ b) ⊎ (a ≢ b)

@@ -9,5 +9,7 @@ mod moves;
 mod search;
 mod settle;
 pub mod locks;
+#[cfg(test)]
+mod tests;
 
 pub use locks::{LockAnswer, Locks};

@@ -156,6 +156,7 @@ impl Locks {
     pub fn waits_for(&self, thread: ThreadNo) -> Option<LockEntry>
         ensures some { (e : Entry) → result ≡ Some e → (e.thread ≡ thread) × WaitsAt self.now thread e.name }
         ensures none { result ≡ None → WaitsNowhere self.now thread }
+        ensures sound { IsSound self.now }
     {
         self.book.entry_of(true, thread)
     }
@@ -212,13 +213,11 @@ impl Locks {
         ensures lines { (name : Name) → line self.new name ≡ withdrawn (line self.old name) thread }
         ensures limit { self.new.limit ≡ self.old.limit }
         ensures none_waits { WaitsNowhere self.new thread }
-        ensures sound { IsSound self.new }
     {
         match self.waits_for(thread) {
             Some(_) => self.withdraw(thread),
-            None => {}
+            None => return,
         }
-        let _ = self.lock_of(thread);
     }
 
     /// A thread whose lock was granted in a queue and that was not told yet, in the order of the grants; none exactly where

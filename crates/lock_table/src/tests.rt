@@ -1,0 +1,73 @@
+//! Worked examples.
+
+use crate::{LockAnswer, Locks};
+use ids_base::lock::{Key, LockMode, LockName};
+use ids_base::numbers::{TableNo, ThreadNo};
+use std::process::Abort;
+use std::test::Fail;
+
+fn key(table: TableNo, number: u8) -> LockName {
+    let mut bytes = [0; 32];
+    bytes[3] = number;
+    LockName {
+        table,
+        key: Some(Key { size: 0, bytes }),
+    }
+}
+
+fn ask(
+    rt: &impl Abort,
+    locks: &mut Locks,
+    thread: ThreadNo,
+    name: LockName,
+    mode: LockMode,
+    wait: bool,
+) -> LockAnswer {
+    assert!(rt; locks.waits_for(thread).is_none());
+    locks.request(thread, name, mode, wait)
+}
+
+#[test]
+fn conversion_goes_before_newcomers(rt: HostRuntime) -> Result<(), Fail> {
+    let mut locks = Locks::new(rt.alloc(), 16)?;
+    let name = key(100, 1);
+    assert_eq!(rt; ask(&rt, &mut locks, 1, name, LockMode::S, true), LockAnswer::Granted);
+    assert_eq!(rt; ask(&rt, &mut locks, 2, name, LockMode::S, true), LockAnswer::Granted);
+    assert_eq!(rt; ask(&rt, &mut locks, 3, name, LockMode::X, true), LockAnswer::Waits);
+    assert_eq!(rt; ask(&rt, &mut locks, 1, name, LockMode::X, true), LockAnswer::Waits);
+    locks.release_all(2);
+    assert_eq!(rt; locks.next_granted(), Some(1));
+    assert_eq!(rt; locks.next_granted(), None);
+    assert!(rt; locks.waits_for(3).is_some());
+    locks.release_all(1);
+    assert_eq!(rt; locks.next_granted(), Some(3));
+    Ok(())
+}
+
+#[test]
+fn first_waiter_is_named(rt: HostRuntime) -> Result<(), Fail> {
+    let mut locks = Locks::new(rt.alloc(), 16)?;
+    let name = LockName {
+        table: 100,
+        key: None,
+    };
+    assert_eq!(rt; ask(&rt, &mut locks, 1, name, LockMode::IS, true), LockAnswer::Granted);
+    assert_eq!(rt; ask(&rt, &mut locks, 2, name, LockMode::IS, true), LockAnswer::Granted);
+    assert_eq!(rt; ask(&rt, &mut locks, 1, name, LockMode::X, true), LockAnswer::Waits);
+    assert_eq!(rt; ask(&rt, &mut locks, 3, name, LockMode::IS, false), LockAnswer::Locked { by: 1 });
+    Ok(())
+}
+
+#[test]
+fn entries_end_at_the_limit(rt: HostRuntime) -> Result<(), Fail> {
+    let mut locks = Locks::new(rt.alloc(), 16)?;
+    for number in 0..16 {
+        assert_eq!(rt; ask(&rt, &mut locks, 1, key(100, number), LockMode::S, true), LockAnswer::Granted);
+    }
+    assert_eq!(rt; ask(&rt, &mut locks, 2, key(100, 16), LockMode::S, true), LockAnswer::NoLocks { limit: 16 });
+    assert_eq!(rt; ask(&rt, &mut locks, 2, key(100, 3), LockMode::X, true), LockAnswer::NoLocks { limit: 16 });
+    assert_eq!(rt; ask(&rt, &mut locks, 1, key(100, 3), LockMode::X, true), LockAnswer::Granted);
+    locks.release_all(1);
+    assert_eq!(rt; ask(&rt, &mut locks, 2, key(100, 3), LockMode::X, true), LockAnswer::Granted);
+    Ok(())
+}
