@@ -1,6 +1,7 @@
 -- The lines of a book's names.
 use Rattle.std.proofs.Common.{◌≡◌, ◌≢◌, ◌∙◌, sym, ap, subst, refl, ℕ, ◌+◌, ◌<◌, ◌≤◌, Bool, true, false, cond, ◌||◌, ◌&&◌, List, [], ◌∷◌, ◌++◌, length, Option, Some, None, ◌⊎◌, inl, inr, arith}
-use Rattle.std.specs.List.{filter, list_any}
+use Rattle.std.specs.List.{filter, list_any, find}
+use Rattle.std.specs.Option.{option_map}
 use Rattle.std.proofs.lemmas.Bool.Decides.{eqb_tells, Decides-eqb}
 use Rattle.ids_base.specs.declared.lock.LockEntry.{LockEntry}
 use Rattle.ids_base.specs.declared.lock.LockName.{LockName}
@@ -13,7 +14,7 @@ use Rattle.lock_table.specs.Table.{Table, holders, queue, line, Line, Becomes}
 use Rattle.lock_table.specs.Book.{in_list, granted_in, table_of, ListChanges}
 use Rattle.lock_table.proofs.Counts.{filter-joined}
 use Rattle.lock_table.specs.Chains.{is_sought, IsFirst}
-use Rattle.lock_table.specs.Table.{is_of, has_thread, without_thread, side}
+use Rattle.lock_table.specs.Table.{is_of, has_thread, without_thread, side, mode_held}
 use Rattle.lock_table.specs.Requests.{with_holder, with_waiter, put_first, unheld, unqueued, without_lock, with_granted}
 use Rattle.lock_table.specs.Sound.{Apart, same_thread}
 use Rattle.std.proofs.lemmas.List.{append-nil, map-append}
@@ -334,3 +335,22 @@ unheld-none b thread name h =
       others = λ m ne. refl;
       limit = refl;
     }
+
+find-at : (p : LockEntry → Bool) (y : LockEntry) (xs ys : List LockEntry) → list_any p xs ≡ false → p y ≡ true → find p (xs ++ y ∷ ys) ≡ Some y
+find-at p y [] ys h k = ap (λ b. cond b (Some y) (find p ys)) k
+find-at p y (x ∷ xs) ys h k = by-test (p x) h (λ g. find-at p y xs ys g k)
+  where
+    by-test : (b : Bool) → (b || list_any p xs) ≡ false → (list_any p xs ≡ false → find p (xs ++ y ∷ ys) ≡ Some y) → cond b (Some x) (find p (xs ++ y ∷ ys)) ≡ Some y
+    by-test true g more = cc
+    by-test false g more = more g
+
+-- the mode of the entry found
+pub mode-at : (b : Book) (thread : ℕ) (name : LockName) (x : ℕ) → IsFirst (is_sought thread (Some name)) b.entries.items (list_at b.names (bucket_of b.buckets name)) x
+    → mode_held (holders (table_of b) name) thread ≡ Some (entry_of b.entries.items x).mode
+mode-at b thread name x f =
+    let items = b.entries.items in
+    let p = is_named name in
+    let y = entry_of items x in
+    let parts = sought-parts thread name y f.passes in
+    ap (λ v. mode_held v thread) (holders-are b name ∙ ap (λ v. filter p (entries_of items v)) f.whole ∙ ap (filter p) (map-append (entry_of items) f.before (x ∷ f.behind)) ∙ put-passing p y (entries_of items f.before) (entries_of items f.behind) parts.1)
+    ∙ ap (option_map (λ e. e.mode)) (find-at (is_of thread) y (filter p (entries_of items f.before)) (filter p (entries_of items f.behind)) (sought-none thread name (entries_of items f.before) f.none_before) parts.0)

@@ -89,7 +89,7 @@ impl Book {
     ghost use Rattle.lock_table.specs.Book.{in_list, granted_in, table_of, ListChanges, IsNew};
     ghost use Rattle.std.specs.List.{list_any};
     ghost use Rattle.lock_table.specs.Sound.{Apart, same_thread, IsLoose};
-    ghost use Rattle.lock_table.specs.Table.{holders, queue, line, Becomes, has_thread, side, is_full, IsTold};
+    ghost use Rattle.lock_table.specs.Table.{holders, queue, line, Becomes, has_thread, side, is_full, mode_held, IsTold};
     ghost use Rattle.ids_base.specs.declared.lock.LockEntry.{LockEntry};
     ghost use Rattle.ids_base.specs.declared.lock.LockName.{LockName};
     ghost use Rattle.lock_table.specs.Requests.{with_holder, with_waiter, unheld, unqueued, with_granted, promoted, taken};
@@ -373,5 +373,15 @@ impl Book {
     {
         self.release(lock.thread, &lock.name);
         self.hold(lock);
+    }
+
+    /// The mode in which the thread holds the name.
+    pub fn mode_held(&self, thread: ThreadNo, name: &LockName) -> Option<LockMode>
+        ensures { result ≡ mode_held (holders (table_of self.now) name.now) thread }
+    {
+        match self.find(false, thread, name) {
+            Some(id) => Some(self.entries[id as usize].mode),
+            None => None,
+        }
     }
 }

@@ -152,6 +152,21 @@ impl Locks {
         LockAnswer::Waits
     }
 
+    /// The mode in which the thread holds the name; none exactly where it does not. It costs the holders of the name.
+    pub fn holds(&self, thread: ThreadNo, name: LockName) -> Option<LockMode>
+        ensures held { result ≡ mode_held (holders self.now name) thread }
+        ensures sound { IsSound self.now }
+    {
+        self.book.mode_held(thread, &name)
+    }
+
+    /// How many entries there are: locks held and waiters. Constant time.
+    pub fn entry_count(&self) -> u32
+        ensures { result ≡ entry_count self.now }
+    {
+        self.book.used
+    }
+
     /// The lock that the thread waits for, with the mode that it wants; none exactly where it waits for none.
     pub fn waits_for(&self, thread: ThreadNo) -> Option<LockEntry>
         ensures some { (e : Entry) → result ≡ Some e → (e.thread ≡ thread) × WaitsAt self.now thread e.name }
