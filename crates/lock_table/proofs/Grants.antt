@@ -1,18 +1,18 @@
 -- Each grant of a waiter, and what stays true of the table.
-use Rattle.std.proofs.Common.{◌≡◌, ◌≢◌, ◌∙◌, sym, ap, subst, refl, ℕ, zero, suc, ◌+◌, ◌<◌, ◌≤◌, Bool, true, false, cond, ◌||◌, not, List, [], ◌∷◌, ◌++◌, length, Option, Some, None, ◌⊎◌, inl, inr, arith}
+use Rattle.std.proofs.Common.{◌≡◌, ◌≢◌, ◌∙◌, sym, ap, subst, refl, ℕ, zero, suc, ◌≤◌, Bool, true, false, cond, ◌||◌, not, List, [], ◌∷◌, ◌++◌, Option, Some, None, ◌⊎◌, inl, inr}
 use Rattle.std.specs.List.{list_any, filter}
 use Rattle.std.specs.Option.{option_map_or}
 use Rattle.ids_base.specs.declared.lock.LockEntry.{LockEntry}
 use Rattle.ids_base.specs.declared.lock.LockName.{LockName}
 use Rattle.ids_base.specs.LockNames.{is_same_name}
 use Rattle.lock_table.specs.Chains.{is_named}
-use Rattle.lock_table.specs.Table.{Table, Line, Place, line, holders, queue, is_of, has_thread, entry_count, first_free, settled, grant_up_to, with_grant, Becomes, WaitsAt, WaitsNowhere}
+use Rattle.lock_table.specs.Table.{Table, Line, Place, line, holders, queue, is_of, has_thread, entry_count, first_free, grant_up_to, with_grant, Becomes, WaitsAt, WaitsNowhere}
 use Rattle.lock_table.specs.Requests.{promoted}
 use Rattle.lock_table.specs.Sound.{IsLoose, IsSettled, IsSound, IsFree}
 use Rattle.lock_table.proofs.Names.{names-told}
 use Rattle.lock_table.proofs.Searching.{any-append}
 use Rattle.lock_table.proofs.Waiters.{found, or-false, or-true, or-left, or-right}
-use Rattle.lock_table.proofs.Settling.{grant-is, grant-loose, settle-step, shorter, free-waits}
+use Rattle.lock_table.proofs.Settling.{grant-is, free-waits}
 
 named-in : (name : LockName) (xs ys zs : List LockEntry) (w : LockEntry) → filter (is_named name) xs ≡ ys ++ w ∷ zs → w.name ≡ name
 named-in name xs ys zs w h = (names-told w.name name).0 (from-none (is_named name w) (ends ys (sym (ap (list_any (λ e. not (is_named name e))) h) ∙ none-failing xs)))
@@ -80,13 +80,13 @@ sound-after t u name l s b ok few from = record {
   ];
   waits_once = λ thread a c wa wc. elim (same-name-or a name) as (λ v. a ≡ c) [
     | inl e ↦ elim (same-name-or c name) as (λ v. a ≡ c) [
-        | inl f ↦ e ∙ sym f
-        | inr nf ↦ e ∙ crossed thread c nf (subst (λ n. WaitsAt u thread n) e wa) wc
-      ]
+      | inl f ↦ e ∙ sym f
+      | inr nf ↦ e ∙ crossed thread c nf (subst (λ n. WaitsAt u thread n) e wa) wc
+    ]
     | inr ne ↦ elim (same-name-or c name) as (λ v. a ≡ c) [
-        | inl f ↦ sym (f ∙ crossed thread a ne (subst (λ n. WaitsAt u thread n) f wc) wa)
-        | inr nf ↦ s.waits_once thread a c (kept thread a ne wa) (kept thread c nf wc)
-      ]
+      | inl f ↦ sym (f ∙ crossed thread a ne (subst (λ n. WaitsAt u thread n) f wc) wa)
+      | inr nf ↦ s.waits_once thread a c (kept thread a ne wa) (kept thread c nf wc)
+    ]
   ];
 }
   where

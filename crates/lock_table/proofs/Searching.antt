@@ -1,15 +1,11 @@
 -- Searches along a list.
-use Rattle.std.proofs.Common.{◌≡◌, ◌∙◌, sym, ap, subst, refl, ℕ, zero, suc, ◌+◌, ◌<◌, ◌≤◌, ◌==◌, Bool, true, false, cond, ◌||◌, ◌&&◌, not, List, [], ◌∷◌, ◌++◌, length, take, drop, get_or, map, is_some, Option, Some, None, arith, add-one, slice_index_or, append_assoc, append-nil, length-append, length-take-le, length-drop, unwrap_or, position, inl, inr}
+use Rattle.std.proofs.Common.{◌≡◌, ◌∙◌, sym, ap, refl, ℕ, suc, ◌+◌, ◌<◌, ◌≤◌, Bool, true, false, cond, ◌||◌, not, List, [], ◌∷◌, ◌++◌, length, take, drop, get_or, Option, Some, arith, add-one, unwrap_or, position, inl, inr}
 use Rattle.std.proofs.lemmas.Bool.Decides.{leb_tells, nat_tests}
-use Rattle.std.proofs.Math.Seq.{take-append_seam, drop-append_seam, drop-length}
 use Rattle.std.proofs.lemmas.List.{drop_more, take_more}
-use Rattle.std.specs.List.{list_any, filter, find, remove, position_or_len}
-use Rattle.std.specs.Option.{option_map, option_map_or}
-use Rattle.std.proofs.lemmas.List.Elements.{filter-append}
+use Rattle.std.specs.List.{list_any, filter, position_or_len}
 use Rattle.ids_base.specs.declared.lock.LockEntry.{LockEntry}
-use Rattle.ids_base.specs.declared.lock.LockName.{LockName}
 use Rattle.ids_base.specs.Waits.{conflicts}
-use Rattle.lock_table.specs.Table.{is_blocked, first_free, Place}
+use Rattle.lock_table.specs.Table.{is_blocked, first_free}
 use Rattle.lock_table.specs.Requests.{least_against, lower, up_to}
 
 pub any-append : {X : Type 0} (p : X → Bool) (xs ys : List X) → list_any p (xs ++ ys) ≡ (list_any p xs || list_any p ys)
@@ -48,7 +44,6 @@ length-dropped p (x ∷ xs) = by-first (p x) x (filter p xs) xs (length-dropped 
     by-first : (b : Bool) (x : LockEntry) (ys xs : List LockEntry) → length ys ≤ length xs → length (cond b (x ∷ ys) ys) ≤ length (x ∷ xs)
     by-first true x ys xs h = omega arith
     by-first false x ys xs h = omega arith
-
 
 up_to-len : (p : LockEntry → Bool) (xs : List LockEntry) → take (position_or_len p xs) xs ≡ up_to p xs
 up_to-len p [] = refl

@@ -1,8 +1,8 @@
 -- What grants leave of a line.
-use Rattle.std.proofs.Common.{◌≡◌, ◌≢◌, ◌∙◌, sym, ap, subst, refl, ℕ, zero, suc, ◌+◌, ◌<◌, ◌≤◌, ◌==◌, Bool, true, false, cond, ◌||◌, ◌&&◌, not, List, [], ◌∷◌, ◌++◌, length, take, drop, Option, Some, None, is_some, arith, append_assoc, append-nil, length-append, add-one, ◌⊎◌, inl, inr}
+use Rattle.std.proofs.Common.{◌≡◌, ◌∙◌, sym, ap, subst, refl, ℕ, zero, suc, ◌+◌, ◌≤◌, ◌==◌, Bool, true, false, cond, ◌||◌, ◌&&◌, not, List, [], ◌∷◌, ◌++◌, length, Option, Some, None, arith, append-nil, length-append, add-one, ◌⊎◌, inl, inr}
 use Rattle.std.specs.List.{list_any, filter, find}
 use Rattle.std.specs.Option.{option_map, option_map_or}
-use Rattle.std.proofs.lemmas.Bool.Decides.{Decides-eqb, eqb_tells}
+use Rattle.std.proofs.lemmas.Bool.Decides.{Decides-eqb}
 use Rattle.ids_base.specs.declared.lock.LockEntry.{LockEntry}
 use Rattle.ids_base.specs.declared.lock.LockName.{LockName}
 use Rattle.ids_base.specs.declared.lock.LockMode.{LockMode}
@@ -13,9 +13,9 @@ use Rattle.lock_table.specs.Table.{Line, Place, is_of, has_thread, is_blocked, f
 use Rattle.lock_table.specs.Requests.{promoted, taken, wanted, mode_wanted, queued, unheld, unqueued, up_to, put_first, is_overtaken, put_before_thread, earlier}
 use Rattle.lock_table.specs.Sound.{Apart, same_thread, IsLoose, IsSettled}
 use Rattle.lock_table.proofs.Searching.{any-append}
-use Rattle.lock_table.proofs.Waiters.{any-put, any-less, any-filter, any-filtered, apart-put, apart-less, apart-filter, IsFound, found, none-more, none-put, or-true, or-false, or-left, or-right}
+use Rattle.lock_table.proofs.Waiters.{any-less, any-filter, any-filtered, apart-put, apart-less, apart-filter, found, none-more, none-put, or-true, or-false, or-left, or-right}
 use Rattle.lock_table.proofs.Names.{thread-turned, conflict-turned, covers-both, covers-more, modes-turned, and-both, names-told}
-use Rattle.lock_table.proofs.Filters.{without-one, put_first-at}
+use Rattle.lock_table.proofs.Filters.{without-one}
 
 pub apart-left : (r : LockEntry → LockEntry → Bool) → ((a b : LockEntry) → r a b ≡ r b a) → (e : LockEntry) (xs ys : List LockEntry) → Apart r (xs ++ e ∷ ys) → list_any (r e) xs ≡ false
 apart-left r turn e [] ys a = refl

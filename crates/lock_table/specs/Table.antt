@@ -1,12 +1,11 @@
 -- The lock table as callers see it, and the grants of waiters.
-use Rattle.std.specs.Prelude.{◌≡◌, ◌≢◌, ℕ, zero, suc, ◌+◌, ◌≤◌, ◌==◌, Bool, true, false, ◌&&◌, ◌||◌, not, cond, List, [], ◌∷◌, ◌++◌, length, map, take, drop, slice_index_or, ◌<◌, Option, Some, None, refl, is_some, nat_le}
+use Rattle.std.specs.Prelude.{◌≡◌, ◌≢◌, ℕ, zero, suc, ◌+◌, ◌==◌, Bool, true, false, ◌||◌, not, cond, List, [], ◌∷◌, ◌++◌, length, take, drop, slice_index_or, ◌<◌, Option, Some, None, refl, nat_le}
 use Rattle.std.specs.Option.{option_map, option_map_or}
 use Rattle.std.specs.List.{list_any, find, filter}
 use Rattle.std.specs.Coded.{Coded, code_by, coded×, coded_ℕ, coded_list}
 use Rattle.ids_base.specs.declared.lock.LockName.{LockName}
 use Rattle.ids_base.specs.declared.lock.LockMode.{LockMode}
 use Rattle.ids_base.specs.declared.lock.LockEntry.{LockEntry}
-use Rattle.ids_base.specs.LockNames.{is_same_name}
 use Rattle.ids_base.specs.Waits.{conflicts}
 use Rattle.lock_table.specs.Chains.{is_named}
 

@@ -5,8 +5,7 @@ ghost use Rattle.lock_table.specs.Kept.{Kept};
 ghost use Rattle.lock_table.specs.Props.{sound-prop};
 
 use crate::buckets::{bucket_of, thread_bucket};
-use crate::chains;
-use crate::moves;
+use crate::{chains, moves};
 use ids_base::lock::{LockEntry, LockMode, LockName};
 use ids_base::numbers::ThreadNo;
 use link_lists::Lists;

@@ -184,7 +184,12 @@ impl Locks {
         match self.book.entry_of(true, thread) {
             Some(entry) => {
                 self.book.leave(thread, &entry.name);
-                settle(&mut self.book, &mut self.held, &mut self.waiting, &entry.name);
+                settle(
+                    &mut self.book,
+                    &mut self.held,
+                    &mut self.waiting,
+                    &entry.name,
+                );
             }
             None => unreachable!(),
         }

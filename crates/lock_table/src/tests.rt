@@ -31,10 +31,22 @@ fn ask(
 fn conversion_goes_before_newcomers(rt: HostRuntime) -> Result<(), Fail> {
     let mut locks = Locks::new(rt.alloc(), 16)?;
     let name = key(100, 1);
-    assert_eq!(rt; ask(&rt, &mut locks, 1, name, LockMode::S, true), LockAnswer::Granted);
-    assert_eq!(rt; ask(&rt, &mut locks, 2, name, LockMode::S, true), LockAnswer::Granted);
-    assert_eq!(rt; ask(&rt, &mut locks, 3, name, LockMode::X, true), LockAnswer::Waits);
-    assert_eq!(rt; ask(&rt, &mut locks, 1, name, LockMode::X, true), LockAnswer::Waits);
+    assert_eq!(rt;
+        ask(&rt, &mut locks, 1, name, LockMode::S, true),
+        LockAnswer::Granted
+    );
+    assert_eq!(rt;
+        ask(&rt, &mut locks, 2, name, LockMode::S, true),
+        LockAnswer::Granted
+    );
+    assert_eq!(rt;
+        ask(&rt, &mut locks, 3, name, LockMode::X, true),
+        LockAnswer::Waits
+    );
+    assert_eq!(rt;
+        ask(&rt, &mut locks, 1, name, LockMode::X, true),
+        LockAnswer::Waits
+    );
     locks.release_all(2);
     assert_eq!(rt; locks.next_granted(), Some(1));
     assert_eq!(rt; locks.next_granted(), None);
@@ -51,10 +63,22 @@ fn first_waiter_is_named(rt: HostRuntime) -> Result<(), Fail> {
         table: 100,
         key: None,
     };
-    assert_eq!(rt; ask(&rt, &mut locks, 1, name, LockMode::IS, true), LockAnswer::Granted);
-    assert_eq!(rt; ask(&rt, &mut locks, 2, name, LockMode::IS, true), LockAnswer::Granted);
-    assert_eq!(rt; ask(&rt, &mut locks, 1, name, LockMode::X, true), LockAnswer::Waits);
-    assert_eq!(rt; ask(&rt, &mut locks, 3, name, LockMode::IS, false), LockAnswer::Locked { by: 1 });
+    assert_eq!(rt;
+        ask(&rt, &mut locks, 1, name, LockMode::IS, true),
+        LockAnswer::Granted
+    );
+    assert_eq!(rt;
+        ask(&rt, &mut locks, 2, name, LockMode::IS, true),
+        LockAnswer::Granted
+    );
+    assert_eq!(rt;
+        ask(&rt, &mut locks, 1, name, LockMode::X, true),
+        LockAnswer::Waits
+    );
+    assert_eq!(rt;
+        ask(&rt, &mut locks, 3, name, LockMode::IS, false),
+        LockAnswer::Locked { by: 1 }
+    );
     Ok(())
 }
 
@@ -62,12 +86,27 @@ fn first_waiter_is_named(rt: HostRuntime) -> Result<(), Fail> {
 fn entries_end_at_the_limit(rt: HostRuntime) -> Result<(), Fail> {
     let mut locks = Locks::new(rt.alloc(), 16)?;
     for number in 0..16 {
-        assert_eq!(rt; ask(&rt, &mut locks, 1, key(100, number), LockMode::S, true), LockAnswer::Granted);
+        assert_eq!(rt;
+            ask(&rt, &mut locks, 1, key(100, number), LockMode::S, true),
+            LockAnswer::Granted
+        );
     }
-    assert_eq!(rt; ask(&rt, &mut locks, 2, key(100, 16), LockMode::S, true), LockAnswer::NoLocks { limit: 16 });
-    assert_eq!(rt; ask(&rt, &mut locks, 2, key(100, 3), LockMode::X, true), LockAnswer::NoLocks { limit: 16 });
-    assert_eq!(rt; ask(&rt, &mut locks, 1, key(100, 3), LockMode::X, true), LockAnswer::Granted);
+    assert_eq!(rt;
+        ask(&rt, &mut locks, 2, key(100, 16), LockMode::S, true),
+        LockAnswer::NoLocks { limit: 16 }
+    );
+    assert_eq!(rt;
+        ask(&rt, &mut locks, 2, key(100, 3), LockMode::X, true),
+        LockAnswer::NoLocks { limit: 16 }
+    );
+    assert_eq!(rt;
+        ask(&rt, &mut locks, 1, key(100, 3), LockMode::X, true),
+        LockAnswer::Granted
+    );
     locks.release_all(1);
-    assert_eq!(rt; ask(&rt, &mut locks, 2, key(100, 3), LockMode::X, true), LockAnswer::Granted);
+    assert_eq!(rt;
+        ask(&rt, &mut locks, 2, key(100, 3), LockMode::X, true),
+        LockAnswer::Granted
+    );
     Ok(())
 }

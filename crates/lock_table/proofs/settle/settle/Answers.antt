@@ -1,4 +1,4 @@
-use Rattle.std.proofs.Common.{◌≡◌, ◌∙◌, ◌<◌, ◌≤◌, ap, sym, subst, arith, length}
+use Rattle.std.proofs.Common.{◌∙◌, ap, sym, subst, arith, length}
 use Rattle.lock_table.specs.Book.{table_of}
 use Rattle.lock_table.specs.Table.{line, settled}
 use Rattle.lock_table.specs.Sound.{IsLoose}

@@ -1,4 +1,4 @@
-use Rattle.std.proofs.Common.{◌≡◌, ◌≤◌, ap, sym, subst, arith, vec_capacity}
+use Rattle.std.proofs.Common.{arith}
 use Rattle.lock_table.specs.Book.{table_of}
 use Rattle.lock_table.proofs.Table.{told-either}
 use Rattle.lock_table.proofs.locks.Locks.next_granted.Goals as goal

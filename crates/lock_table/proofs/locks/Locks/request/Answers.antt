@@ -1,6 +1,6 @@
-use Rattle.std.proofs.Common.{◌≡◌, ◌∙◌, ◌≤◌, ◌<◌, ap, sym, subst, arith, vec_capacity, true, false, refl, not, is_some, ◌&&◌, Bool}
+use Rattle.std.proofs.Common.{◌≡◌, ◌∙◌, ap, sym, subst, arith, true, false, refl, not, is_some, ◌&&◌, Bool}
 use Rattle.lock_table.specs.Book.{table_of}
-use Rattle.lock_table.specs.Table.{line, holders, queue, has_thread, is_full, WaitsNowhere, Becomes}
+use Rattle.lock_table.specs.Table.{line, holders, queue, has_thread, WaitsNowhere, Becomes}
 use Rattle.lock_table.specs.Requests.{wanted, taken, queued, with_waiter, is_overtaken}
 use Rattle.lock_table.proofs.Table.{has-room, mode-none, find-has, after-taken, as-queued, after-queued}
 use Rattle.lock_table.proofs.locks.Locks.request.Goals as goal
