@@ -1,3 +1,4 @@
 pub mod Counting
 pub mod Removing
+pub mod Telling
 pub mod Ticking

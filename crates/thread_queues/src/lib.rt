@@ -7,6 +7,8 @@ mod due;
 pub mod event;
 pub mod places;
 mod ready;
+#[cfg(test)]
+mod tests;
 
 pub use event::Event;
 pub use places::Threads;
