@@ -1,3 +1,4 @@
+pub mod Copied
 pub mod Counts
 pub mod Filters
 pub mod Grants

@@ -61,9 +61,11 @@ within p (x ∷ xs) = by-test (p x) (within p xs)
     by-test true more = omega arith
     by-test false more = omega arith
 
-pub taken-up_to : (p : LockEntry → Bool) (xs : List LockEntry) → take (unwrap_or (position p xs) (length xs)) xs ≡ up_to p xs
-taken-up_to p xs = elim (leb_tells (length xs) (position_or_len p xs)) as (λ v. take (unwrap_or (position p xs) (length xs)) xs ≡ up_to p xs) [
-  | inl x ↦ let w = within p xs in let le = x.1 in
-      ap (λ k. take k xs) (let q : unwrap_or (position p xs) (length xs) ≡ position_or_len p xs = grind (arith, nat_tests) in q) ∙ up_to-len p xs
-  | inr y ↦ let lt = y.1 in ap (λ k. take k xs) (let q : unwrap_or (position p xs) (length xs) ≡ position_or_len p xs = grind (arith, nat_tests) in q) ∙ up_to-len p xs
+pub place-len : (p : LockEntry → Bool) (xs : List LockEntry) → unwrap_or (position p xs) (length xs) ≡ position_or_len p xs
+place-len p xs = elim (leb_tells (length xs) (position_or_len p xs)) as (λ v. unwrap_or (position p xs) (length xs) ≡ position_or_len p xs) [
+  | inl x ↦ let w = within p xs in let le = x.1 in grind (arith, nat_tests)
+  | inr y ↦ let lt = y.1 in grind (arith, nat_tests)
 ]
+
+pub taken-up_to : (p : LockEntry → Bool) (xs : List LockEntry) → take (unwrap_or (position p xs) (length xs)) xs ≡ up_to p xs
+taken-up_to p xs = ap (λ k. take k xs) (place-len p xs) ∙ up_to-len p xs

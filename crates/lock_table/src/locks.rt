@@ -10,6 +10,7 @@ ghost use Rattle.lock_table.specs.Sound.{IsSound};
 
 use crate::asked::look;
 use crate::book::Book;
+use crate::listing;
 use crate::settle::settle;
 use ids_base::lock::{LockEntry, LockMode, LockName, covers};
 use ids_base::numbers::ThreadNo;
@@ -158,6 +159,37 @@ impl Locks {
         ensures sound { IsSound self.now }
     {
         self.book.mode_held(thread, &name)
+    }
+
+    /// The holders of the name with their modes. It takes memory for them, and costs the entries that share the name's bucket.
+    pub fn holders(&self, alloc: Global, name: LockName) -> Result<Vec<LockEntry>, AllocError>
+        ensures { IfOk result (λ v. v.items ≡ holders self.now name) }
+    {
+        listing::side(alloc, &self.book, false, &name)
+    }
+
+    /// The waiters for the name with the modes that they want, in the order of the queue. It takes memory for them, and costs the
+    /// entries that share the name's bucket.
+    pub fn queue(&self, alloc: Global, name: LockName) -> Result<Vec<LockEntry>, AllocError>
+        ensures { IfOk result (λ v. v.items ≡ queue self.now name) }
+    {
+        listing::side(alloc, &self.book, true, &name)
+    }
+
+    /// The queue of the name as it would be if this request waited: the request stands in its place. It takes memory for the
+    /// name's holders and waiters, and costs the entries that share the name's bucket; for a holder's request, the holders for each
+    /// waiter.
+    pub fn queue_with(
+        &self,
+        alloc: Global,
+        thread: ThreadNo,
+        name: LockName,
+        mode: LockMode,
+    ) -> Result<Vec<LockEntry>, AllocError>
+        ensures queue { IfOk result (λ v. v.items ≡ (queued (line self.now name) (wanted (line self.now name) thread name mode)).queue) }
+        ensures sound { IsSound self.now }
+    {
+        listing::queue_with(alloc, &self.book, thread, &name, mode)
     }
 
     /// How many entries there are: locks held and waiters. Constant time.
