@@ -17,6 +17,9 @@ use Rattle.wait_graph.proofs.Trees.{or-right}
 names-told : NamesAreTold
 names-told = λ a b. search rules
 
+pub not-equal : (a b : ℕ) → a ≢ b → (a == b) ≡ false
+not-equal a b ne = elim (eqb_tells a b) as (λ v. (a == b) ≡ false) [ inl t ↦ absurd (ne t.1) | inr f ↦ f.0 ]
+
 pub has-stands : (a : ℕ) (before : List LockEntry) (w : LockEntry) (after : List LockEntry) → w.thread ≡ a → has_thread a (before ++ w ∷ after) ≡ true
 has-stands a [] w after is = ap (λ b. b || has_thread a after) ((Decides-eqb w.thread a).1 is)
 has-stands a (x ∷ before) w after is = or-right (is_of a x) (has_thread a (before ++ w ∷ after)) (has-stands a before w after is)
@@ -44,11 +47,11 @@ find-waits a (x ∷ xs) e h = by-test (is_of a x) refl h (λ k. find-waits a xs 
 -- a thread with an entry on some name is found
 has-find : (a : ℕ) (name : LockName) (es : List LockEntry) → has_thread a (filter (is_named name) es) ≡ true → find (is_of a) es ≡ None → ⊥
 has-find a name [] h e = cc
-has-find a name (x ∷ xs) h e = by-test (is_of a x) refl e
+has-find a name (x ∷ xs) h e = by-test (is_of a x) refl e (λ g k. has-find a name xs g k)
   where
-    by-test : (b : Bool) → is_of a x ≡ b → cond b (Some x) (find (is_of a) xs) ≡ None → ⊥
-    by-test true is e = cc
-    by-test false is e = has-find a name xs (has-rest a (is_named name x) x (filter (is_named name) xs) is h) e
+    by-test : (b : Bool) → is_of a x ≡ b → cond b (Some x) (find (is_of a) xs) ≡ None → (has_thread a (filter (is_named name) xs) ≡ true → find (is_of a) xs ≡ None → ⊥) → ⊥
+    by-test true is e more = cc
+    by-test false is e more = more (has-rest a (is_named name x) x (filter (is_named name) xs) is h) e
 
 pub waits-name : (t : Table) → IsSound t → (a : ℕ) (name : LockName) → WaitsAt t a name → option_map (λ e. e.name) (find (is_of a) t.waiting) ≡ Some name
 waits-name t s a name h = by-find (find (is_of a) t.waiting) refl
