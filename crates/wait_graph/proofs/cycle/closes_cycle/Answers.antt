@@ -30,5 +30,5 @@ returns-clause-none c = λ e threads cycle.
     let asked : Asked = record { start = c.args.thread; name = c.args.name; queue = c.in_ok-queue.queue } in
     c.find_cycle.ensures.none e threads
     (cycle-mapped (WaitsSomewhere t (queue_with t w)) (Waits (next t asked))
-        (λ a b x. edge-to t asked (is_overtaken (holders t c.args.name) c.args.thread) w c.queue_with.ensures.sound c.requires c.in_ok-queue.ensures.queue refl a b (from-asked t asked w refl c.in_ok-queue.ensures.queue a b x))
-        c.args.thread threads cycle)
+    (λ a b x. edge-to t asked (is_overtaken (holders t c.args.name) c.args.thread) w c.queue_with.ensures.sound c.requires c.in_ok-queue.ensures.queue refl a b (from-asked t asked w refl c.in_ok-queue.ensures.queue a b x))
+    c.args.thread threads cycle)

@@ -11,7 +11,7 @@ returns-in-Some c =
     let asked = c.args.asked.now in
     let a = c.args.thread in
     sym (ap (λ b. cond b (Some asked.name) (option_map (λ e. e.name) (find (is_of a) t.waiting))) (not-equal a asked.start c.if-thread-asked.false)
-        ∙ waits-name t c.waits_for.ensures.sound a c.in-Some.entry.name (c.waits_for.ensures.some c.in-Some.entry c.in-Some.is).1)
+    ∙ waits-name t c.waits_for.ensures.sound a c.in-Some.entry.name (c.waits_for.ensures.some c.in-Some.entry c.in-Some.is).1)
 
 pub returns-in-None : goal.returns-in-None
 returns-in-None c =
@@ -19,4 +19,4 @@ returns-in-None c =
     let asked = c.args.asked.now in
     let a = c.args.thread in
     sym (ap (λ b. cond b (Some asked.name) (option_map (λ e. e.name) (find (is_of a) t.waiting))) (not-equal a asked.start c.if-thread-asked.false)
-        ∙ nowhere-none t a (c.waits_for.ensures.none c.in-None.is))
+    ∙ nowhere-none t a (c.waits_for.ensures.none c.in-None.is))
