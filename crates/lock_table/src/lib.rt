@@ -12,6 +12,8 @@ mod chains;
 mod listing;
 pub mod locks;
 mod moves;
+#[cfg(test)]
+mod plain;
 mod search;
 mod settle;
 #[cfg(test)]

@@ -1,12 +1,12 @@
 //! Worked examples.
 
 use crate::{LockAnswer, Locks};
-use ids_base::lock::{Key, LockMode, LockName};
+use ids_base::lock::{Key, LockMode, LockName, compatible, sup};
 use ids_base::numbers::{TableNo, ThreadNo};
 use std::process::Abort;
 use std::test::Fail;
 
-fn key(table: TableNo, number: u8) -> LockName {
+pub fn key(table: TableNo, number: u8) -> LockName {
     let mut bytes = [0; 32];
     bytes[3] = number;
     LockName {
@@ -15,7 +15,7 @@ fn key(table: TableNo, number: u8) -> LockName {
     }
 }
 
-fn ask(
+pub fn ask(
     rt: &impl Abort,
     locks: &mut Locks,
     thread: ThreadNo,
@@ -25,6 +25,17 @@ fn ask(
 ) -> LockAnswer {
     assert!(rt; locks.waits_for(thread).is_none());
     locks.request(thread, name, mode, wait)
+}
+
+// The thread waits no more; tells whether it waited.
+pub fn stop_waiting(locks: &mut Locks, thread: ThreadNo) -> bool {
+    match locks.waits_for(thread) {
+        Some(_) => {
+            locks.withdraw(thread);
+            true
+        }
+        None => false,
+    }
 }
 
 #[test]
@@ -79,6 +90,11 @@ fn first_waiter_is_named(rt: HostRuntime) -> Result<(), Fail> {
         ask(&rt, &mut locks, 3, name, LockMode::IS, false),
         LockAnswer::Locked { by: 1 }
     );
+    assert!(rt; stop_waiting(&mut locks, 1));
+    assert_eq!(rt;
+        ask(&rt, &mut locks, 3, name, LockMode::IS, false),
+        LockAnswer::Granted
+    );
     Ok(())
 }
 
@@ -108,5 +124,33 @@ fn entries_end_at_the_limit(rt: HostRuntime) -> Result<(), Fail> {
         ask(&rt, &mut locks, 2, key(100, 3), LockMode::X, true),
         LockAnswer::Granted
     );
+    Ok(())
+}
+
+#[test]
+fn pairs_of_modes(rt: HostRuntime) -> Result<(), Fail> {
+    use LockMode::{IS, IX, S, SIX, U, X};
+    let name = key(100, 1);
+    for held in [IS, IX, S, U, SIX, X] {
+        for mode in [IS, IX, S, U, SIX, X] {
+            let mut locks = Locks::new(rt.alloc(), 4)?;
+            assert_eq!(rt;
+                ask(&rt, &mut locks, 1, name, held, true),
+                LockAnswer::Granted
+            );
+            let answer = if compatible(held, mode) {
+                LockAnswer::Granted
+            } else {
+                LockAnswer::Locked { by: 1 }
+            };
+            assert_eq!(rt; ask(&rt, &mut locks, 2, name, mode, false), answer);
+            locks.release_all(2);
+            assert_eq!(rt;
+                ask(&rt, &mut locks, 1, name, mode, false),
+                LockAnswer::Granted
+            );
+            assert_eq!(rt; locks.holds(1, name), Some(sup(held, mode)));
+        }
+    }
     Ok(())
 }
