@@ -1,4 +1,12 @@
+pub mod Copied
+pub mod Counts
+pub mod Filters
+pub mod Grants
 pub mod Keeping
+pub mod Lines
 pub mod Names
 pub mod Searching
-pub mod Soundness
+pub mod Settling
+pub mod Table
+pub mod Waiters
+pub mod Walks

@@ -1,4 +1,10 @@
-pub mod Parts
+pub mod Book
+pub mod Buckets
+pub mod Chains
+pub mod Inside
+pub mod Kept
+pub mod Moves
+pub mod Props
 pub mod Requests
 pub mod Sound
 pub mod Table

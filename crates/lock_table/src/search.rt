@@ -1,55 +1,75 @@
-//! Searches among entries.
+//! Searches among the holders and the waiters of a name.
 ghost use Rattle.std.specs.Prelude.{◌≡◌, ◌+◌, ℕ, Some, None, length, ◌<◌, ◌≤◌, ◌∷◌, [], ◌++◌, take, drop, Option, position};
 ghost use Rattle.std.specs.List.{list_any, find};
 ghost use Rattle.std.specs.Option.{option_map, unwrap_or};
 ghost use Rattle.ids_base.specs.Waits.{conflicts};
-ghost use Rattle.lock_table.specs.Table.{is_lock, is_of, mode_held, holds, is_blocked, first_free, IsFirstFree};
-ghost use Rattle.lock_table.specs.Requests.{is_newcomer, least_against};
+ghost use Rattle.lock_table.specs.Table.{is_of, mode_held, has_thread, is_blocked, first_free, IsFirstFree};
+ghost use Rattle.lock_table.specs.Requests.{is_overtaken, least_against, blocker};
 
-use ids_base::lock::{LockEntry, LockMode, LockName, conflict, same_name};
+use ids_base::lock::{LockEntry, LockMode, conflict};
 use ids_base::numbers::ThreadNo;
 
-pub fn is_lock(thread: ThreadNo, name: &LockName, entry: &LockEntry) -> bool
-    ensures { result ≡ is_lock thread name.now entry.now }
+pub fn mode_held(holders: &[LockEntry], thread: ThreadNo) -> Option<LockMode>
+    ensures { result ≡ mode_held holders.now thread }
 {
-    entry.thread == thread && same_name(&entry.name, name)
-}
-
-pub fn mode_held(entries: &[LockEntry], thread: ThreadNo, name: &LockName) -> Option<LockMode>
-    ensures { result ≡ mode_held entries.now thread name.now }
-{
-    entries
+    holders
         .iter()
-        .find(|entry| is_lock(thread, name, entry))
+        .find(|entry| entry.thread == thread)
         .map(|entry| entry.mode)
 }
 
-pub fn holds(entries: &[LockEntry], thread: ThreadNo, name: &LockName) -> bool
-    ensures { result ≡ holds entries.now thread name.now }
-{
-    entries.iter().any(|entry| is_lock(thread, name, entry))
-}
-
-pub fn any_of(entries: &[LockEntry], thread: ThreadNo) -> bool
-    ensures { result ≡ list_any (is_of thread) entries.now }
+pub fn has_thread(thread: ThreadNo, entries: &[LockEntry]) -> bool
+    ensures { result ≡ has_thread thread entries.now }
 {
     entries.iter().any(|entry| entry.thread == thread)
 }
 
-pub fn any_against(wanted: &LockEntry, entries: &[LockEntry]) -> bool
+fn any_against(wanted: &LockEntry, entries: &[LockEntry]) -> bool
     ensures { result ≡ list_any (conflicts wanted.now) entries.now }
 {
     entries.iter().any(|entry| conflict(wanted, entry))
 }
 
-pub fn least_against(
-    wanted: &LockEntry,
-    found: Option<ThreadNo>,
-    entries: &[LockEntry],
-) -> Option<ThreadNo>
-    ensures { result ≡ least_against wanted.now found entries.now }
+fn is_overtaken(holders: &[LockEntry], thread: ThreadNo, waiter: &LockEntry) -> bool
+    ensures { result ≡ is_overtaken holders.now thread waiter.now }
 {
-    let mut best = found;
+    has_thread(thread, holders) && !has_thread(waiter.thread, holders)
+}
+
+fn overtaken(holders: &[LockEntry], thread: ThreadNo, queue: &[LockEntry]) -> Option<usize>
+    ensures { result ≡ position (is_overtaken holders.now thread) queue.now }
+{
+    queue
+        .iter()
+        .position(|entry| is_overtaken(holders, thread, entry))
+}
+
+/// How many waiters a request of the thread stands behind.
+pub fn place_of(holders: &[LockEntry], thread: ThreadNo, queue: &[LockEntry]) -> usize
+    ensures place { result ≡ unwrap_or (position (is_overtaken holders.now thread) queue.now) (length queue.now) }
+    ensures within { result ≤ length queue.now }
+{
+    overtaken(holders, thread, queue).unwrap_or(queue.len())
+}
+
+/// The thread of the first waiter that a request of the thread goes before.
+pub fn first_overtaken(
+    holders: &[LockEntry],
+    thread: ThreadNo,
+    queue: &[LockEntry],
+) -> Option<ThreadNo>
+    ensures { result ≡ option_map (λ e. e.thread) (find (is_overtaken holders.now thread) queue.now) }
+{
+    queue
+        .iter()
+        .find(|entry| is_overtaken(holders, thread, entry))
+        .map(|entry| entry.thread)
+}
+
+fn least_against(wanted: &LockEntry, entries: &[LockEntry]) -> Option<ThreadNo>
+    ensures { result ≡ least_against wanted.now None entries.now }
+{
+    let mut best = None;
     for entry in entries {
         if conflict(wanted, entry) {
             best = match best {
@@ -65,7 +85,7 @@ pub fn least_against(
     best
 }
 
-pub fn first_against(wanted: &LockEntry, entries: &[LockEntry]) -> ThreadNo
+fn first_against(wanted: &LockEntry, entries: &[LockEntry]) -> ThreadNo
     ensures { result ≡ unwrap_or (option_map (λ e. e.thread) (find (conflicts wanted.now) entries.now)) 0 }
 {
     entries
@@ -75,77 +95,26 @@ pub fn first_against(wanted: &LockEntry, entries: &[LockEntry]) -> ThreadNo
         .unwrap_or(0)
 }
 
-fn either_holds(
-    held: &[LockEntry],
-    granted: &[LockEntry],
-    thread: ThreadNo,
-    name: &LockName,
-) -> bool
-    ensures { result ≡ holds (held.now ++ granted.now) thread name.now }
+/// Who is named where a request does not wait.
+pub fn blocker(holders: &[LockEntry], earlier: &[LockEntry], wanted: &LockEntry) -> ThreadNo
+    ensures { result ≡ blocker holders.now earlier.now wanted.now }
 {
-    holds(held, thread, name) || holds(granted, thread, name)
+    least_against(wanted, holders).unwrap_or(first_against(wanted, earlier))
 }
 
-fn either_against(wanted: &LockEntry, held: &[LockEntry], granted: &[LockEntry]) -> bool
-    ensures { result ≡ list_any (conflicts wanted.now) (held.now ++ granted.now) }
+pub fn is_blocked(holders: &[LockEntry], earlier: &[LockEntry], wanted: &LockEntry) -> bool
+    ensures { result ≡ is_blocked holders.now earlier.now wanted.now }
 {
-    any_against(wanted, held) || any_against(wanted, granted)
+    any_against(wanted, holders) || any_against(wanted, earlier)
 }
 
-fn newcomer(
-    entries: &[LockEntry],
-    held: &[LockEntry],
-    granted: &[LockEntry],
-    name: &LockName,
-) -> Option<usize>
-    ensures { result ≡ position (is_newcomer (held.now ++ granted.now) name.now) entries.now }
+/// Where the first waiter stands that nothing is against.
+pub fn first_free(holders: &[LockEntry], queue: &[LockEntry]) -> Option<usize>
+    ensures none { result ≡ None → first_free holders.now [] queue.now ≡ None }
+    ensures found { (k : ℕ) → result ≡ Some k → IsFirstFree holders.now queue.now k }
 {
-    entries
-        .iter()
-        .position(|entry| is_newcomer(held, granted, name, entry))
-}
-
-// How many entries stand before the first waiter for the name that is no conversion.
-pub fn before_newcomer(
-    entries: &[LockEntry],
-    held: &[LockEntry],
-    granted: &[LockEntry],
-    name: &LockName,
-) -> usize
-    ensures { result ≡ unwrap_or (position (is_newcomer (held.now ++ granted.now) name.now) entries.now) (length entries.now) }
-{
-    newcomer(entries, held, granted, name).unwrap_or(entries.len())
-}
-
-fn is_newcomer(
-    held: &[LockEntry],
-    granted: &[LockEntry],
-    name: &LockName,
-    entry: &LockEntry,
-) -> bool
-    ensures { result ≡ is_newcomer (held.now ++ granted.now) name.now entry.now }
-{
-    same_name(&entry.name, name) && !either_holds(held, granted, entry.thread, name)
-}
-
-pub fn is_blocked(
-    held: &[LockEntry],
-    granted: &[LockEntry],
-    earlier: &[LockEntry],
-    wanted: &LockEntry,
-) -> bool
-    ensures { result ≡ is_blocked (held.now ++ granted.now) earlier.now wanted.now }
-{
-    either_against(wanted, held, granted) || any_against(wanted, earlier)
-}
-
-// Where the first waiter stands that nothing is against.
-pub fn first_free(held: &[LockEntry], granted: &[LockEntry], waiting: &[LockEntry]) -> Option<usize>
-    ensures none { result ≡ None → first_free (held.now ++ granted.now) [] waiting.now ≡ None }
-    ensures found { (k : ℕ) → result ≡ Some k → IsFirstFree (held.now ++ granted.now) waiting.now k }
-{
-    for (k, wanted) in waiting.iter().enumerate() {
-        if !is_blocked(held, granted, &waiting[..k], wanted) {
+    for (k, wanted) in queue.iter().enumerate() {
+        if !is_blocked(holders, &queue[..k], wanted) {
             return Some(k);
         }
     }

@@ -1,13 +1,22 @@
 -- The targets of a thread are those that it waits for.
-use Rattle.std.proofs.Common.{◌≡◌, ◌≢◌, ◌∙◌, sym, ap, subst, refl, ℕ, zero, suc, ◌+◌, ◌<◌, ◌≤◌, ◌==◌, Bool, true, false, cond, ◌||◌, List, [], ◌∷◌, ◌++◌, length, map, slice_index_or, arith, ◌⊎◌, inl, inr, append_assoc, append-nil}
+use Rattle.std.proofs.Common.{◌≡◌, ◌≢◌, ◌∙◌, sym, ap, subst, refl, ℕ, zero, suc, ◌+◌, ◌<◌, ◌≤◌, ◌==◌, Bool, true, false, cond, ◌||◌, List, [], ◌∷◌, ◌++◌, length, map, slice_index_or, arith, ◌⊎◌, inl, inr, append_assoc, append-nil, Option, Some, None}
 use Rattle.std.specs.List.{Contains, filter, list_any}
+use Rattle.std.specs.Option.{option_map_or}
 use Rattle.std.proofs.lemmas.Bool.Decides.{eqb_tells, Decides-eqb}
 use Rattle.ids_base.specs.declared.lock.LockEntry.{LockEntry}
+use Rattle.ids_base.specs.declared.lock.LockName.{LockName}
+use Rattle.ids_base.specs.LockNames.{is_same_name}
+use Rattle.lock_table.specs.Table.{Table, line, holders, queue, has_thread, WaitsNowhere}
+use Rattle.lock_table.specs.Requests.{put_first, queued}
+use Rattle.lock_table.specs.Sound.{IsSound}
+use Rattle.wait_graph.specs.declared.next.Asked.{Asked}
+use Rattle.wait_graph.specs.Queued.{WaitsSomewhere, queue_with}
 use Rattle.ids_base.specs.Waits.{conflicts, WaitsFor, WaitInTurn}
 use Rattle.wait_graph.specs.Cycles.{IsCycle}
-use Rattle.wait_graph.specs.Targets.{against_of, targets_from, targets, among}
+use Rattle.wait_graph.specs.Targets.{against_of, targets_from, targets, among, queue_at, name_waited, next}
 use Rattle.wait_graph.specs.Search.{Waits}
 use Rattle.wait_graph.proofs.Trees.{among-cons, among-first, among-later}
+use Rattle.wait_graph.proofs.Named.{has-stands, waited-at}
 
 pub record Against (w : LockEntry) (es : List LockEntry) (b : ℕ) : Type 0 where
   pub other : LockEntry
@@ -84,12 +93,38 @@ waits-to held earlier (x ∷ before) w after a b is g =
     among-right b (cond (x.thread == a) (against_of x (held ++ earlier)) []) (targets_from held (earlier ++ x ∷ []) a (before ++ w ∷ after))
     (waits-to held (earlier ++ x ∷ []) before w after a b is (subst (λ v. Against w (held ++ v) b) (sym (append_assoc earlier (x ∷ []) before)) g))
 
-pub edge-from : (held waiting : List LockEntry) (a b : ℕ) → Waits (targets held waiting) a b → WaitsFor held waiting a b
-edge-from held waiting a b h = waits-from held [] waiting a b h
+-- the threads that a thread waits for are found from the name that it waits for
+pub edge-from : (t : Table) (asked : Asked) (a b : ℕ) → Waits (next t asked) a b → WaitsSomewhere t (queue_at t asked) a b
+unfolding next
+edge-from t asked a b h = by-name (name_waited t asked a) h
+  where
+    by-name : (o : Option LockName) → among b (option_map_or (λ name. targets (holders t name) (queue_at t asked name) a) o []) ≡ true → WaitsSomewhere t (queue_at t asked) a b
+    by-name None h = cc
+    by-name (Some name) h = record { name = name; waits = waits-from (holders t name) [] (queue_at t asked name) a b h }
 
-pub edge-to : (held waiting : List LockEntry) (a b : ℕ) → WaitsFor held waiting a b → Waits (targets held waiting) a b
-edge-to held waiting a b w = subst (λ v. among b (targets_from held [] a v) ≡ true) (sym w.stands)
+at-to : (held waiting : List LockEntry) (a b : ℕ) → WaitsFor held waiting a b → among b (targets held waiting a) ≡ true
+at-to held waiting a b w = subst (λ v. among b (targets_from held [] a v) ≡ true) (sym w.stands)
     (waits-to held [] w.before w.waiter w.after a b w.of_a (record { other = w.other; there = w.there; against = w.against; of_b = w.of_b }))
+
+pub edge-to : (t : Table) (asked : Asked) (p : LockEntry → Bool) (w : LockEntry) → IsSound t → WaitsNowhere t asked.start → asked.queue.items ≡ put_first p w (queue t asked.name) → w.thread ≡ asked.start
+    → (a b : ℕ) → WaitsSomewhere t (queue_at t asked) a b → Waits (next t asked) a b
+unfolding next
+edge-to t asked p w s never q of-start a b e =
+    let stands : has_thread a (queue_at t asked e.name) ≡ true = ap (has_thread a) e.waits.stands ∙ has-stands a e.waits.before e.waits.waiter e.waits.after e.waits.of_a in
+    ap (λ o. among b (option_map_or (λ name. targets (holders t name) (queue_at t asked name) a) o [])) (waited-at t asked p w s never q of-start a e.name stands)
+    ∙ at-to (holders t e.name) (queue_at t asked e.name) a b e.waits
+
+-- the queues differ by nothing but how the asked one was found
+same-queues : (t : Table) (asked : Asked) (w : LockEntry) → asked.name ≡ w.name → asked.queue.items ≡ (queued (line t w.name) w).queue → (name : LockName) → queue_at t asked name ≡ queue_with t w name
+same-queues t asked w e q name = ap (λ v. cond (is_same_name name v) asked.queue.items (queue t name)) e ∙ ap (λ v. cond (is_same_name name w.name) v (queue t name)) q
+
+pub as-asked : (t : Table) (asked : Asked) (w : LockEntry) → asked.name ≡ w.name → asked.queue.items ≡ (queued (line t w.name) w).queue
+    → (a b : ℕ) → WaitsSomewhere t (queue_at t asked) a b → WaitsSomewhere t (queue_with t w) a b
+as-asked t asked w e q a b x = record { name = x.name; waits = subst (λ v. WaitsFor (holders t x.name) v a b) (same-queues t asked w e q x.name) x.waits }
+
+pub from-asked : (t : Table) (asked : Asked) (w : LockEntry) → asked.name ≡ w.name → asked.queue.items ≡ (queued (line t w.name) w).queue
+    → (a b : ℕ) → WaitsSomewhere t (queue_with t w) a b → WaitsSomewhere t (queue_at t asked) a b
+from-asked t asked w e q a b x = record { name = x.name; waits = subst (λ v. WaitsFor (holders t x.name) v a b) (sym (same-queues t asked w e q x.name)) x.waits }
 
 turn-mapped : (V W : ℕ → ℕ → Type 0) → ((a b : ℕ) → V a b → W a b) → (start : ℕ) (xs : List ℕ) → WaitInTurn V start xs → WaitInTurn W start xs
 turn-mapped V W f start [] h = tt

@@ -15,7 +15,7 @@ among-cons b x xs h = elim (eqb_tells x b) as (λ v. (x ≡ b) ⊎ (among b xs �
 pub among-first : (b : ℕ) (xs : List ℕ) → among b (b ∷ xs) ≡ true
 among-first b xs = ap (λ c. c || among b xs) ((Decides-eqb b b).1 refl)
 
-or-right : (b c : Bool) → c ≡ true → (b || c) ≡ true
+pub or-right : (b c : Bool) → c ≡ true → (b || c) ≡ true
 or-right true c h = refl
 or-right false c h = h
 

@@ -1,15 +1,23 @@
--- The waits-for relation with a request looked at as if it were queued.
-use Rattle.std.specs.Prelude.{ℕ, List, insert}
+-- Which thread waits for which, with a request looked at as if it stood in its queue.
+use Rattle.std.specs.Prelude.{ℕ, List, cond}
 use Rattle.ids_base.specs.declared.lock.LockName.{LockName}
 use Rattle.ids_base.specs.declared.lock.LockMode.{LockMode}
+use Rattle.ids_base.specs.declared.lock.LockEntry.{LockEntry}
+use Rattle.ids_base.specs.LockNames.{is_same_name}
 use Rattle.ids_base.specs.Waits.{WaitsFor}
 use Rattle.wait_graph.specs.Cycles.{IsCycle}
-use Rattle.lock_table.specs.Table.{Table, holders}
-use Rattle.lock_table.specs.Requests.{wanted, place_of}
+use Rattle.lock_table.specs.Table.{Table, Line, line, holders, queue}
+use Rattle.lock_table.specs.Requests.{wanted, queued}
 
-abbrev pub WaitsQueued : Table → ℕ → LockName → LockMode → ℕ → ℕ → Type 0
-WaitsQueued t thread name mode a b = WaitsFor (holders t) (insert t.waiting (place_of t thread name) (wanted t thread name mode)) a b
+-- the queue of each name, with the request in its place
+abbrev pub queue_with : Table → LockEntry → LockName → List LockEntry
+queue_with t request name = cond (is_same_name name request.name) (queued (line t request.name) request).queue (queue t name)
+
+-- for some name, a stands in the queue and waits there for b
+pub record WaitsSomewhere (t : Table) (queues : LockName → List LockEntry) (a b : ℕ) : Type 0 where
+  pub name : LockName
+  pub waits : WaitsFor (holders t name) (queues name) a b
 
 -- with the request queued, these threads wait in a circle, from the requester on
 abbrev pub ClosesCycle : Table → ℕ → LockName → LockMode → List ℕ → Type 0
-ClosesCycle t thread name mode threads = IsCycle (WaitsQueued t thread name mode) thread threads
+ClosesCycle t thread name mode threads = IsCycle (WaitsSomewhere t (queue_with t (wanted (line t name) thread name mode))) thread threads

@@ -1,8 +1,13 @@
 -- Whom a thread waits for, as a list.
-use Rattle.std.specs.Prelude.{◌≡◌, ℕ, ◌==◌, Bool, true, false, cond, List, [], ◌∷◌, ◌++◌, map, filter}
-use Rattle.std.specs.List.{list_any}
+use Rattle.std.specs.Prelude.{◌≡◌, ℕ, ◌==◌, Bool, true, false, cond, List, [], ◌∷◌, ◌++◌, map, filter, Option, Some, None}
+use Rattle.std.specs.List.{list_any, find}
+use Rattle.std.specs.Option.{option_map, option_map_or}
+use Rattle.ids_base.specs.declared.lock.LockName.{LockName}
 use Rattle.ids_base.specs.declared.lock.LockEntry.{LockEntry}
+use Rattle.ids_base.specs.LockNames.{is_same_name}
 use Rattle.ids_base.specs.Waits.{conflicts}
+use Rattle.lock_table.specs.Table.{Table, is_of, holders, queue}
+use Rattle.wait_graph.specs.declared.next.Asked.{Asked}
 
 -- the threads of the entries that are against w
 abbrev pub against_of : LockEntry → List LockEntry → List ℕ
@@ -19,3 +24,15 @@ targets held waiting a = targets_from held [] a waiting
 -- b is among these
 abbrev pub among : ℕ → List ℕ → Bool
 among b xs = list_any (λ x. x == b) xs
+
+-- the queue of a name, with the request in its place
+abbrev pub queue_at : Table → Asked → LockName → List LockEntry
+queue_at t asked name = cond (is_same_name name asked.name) asked.queue.items (queue t name)
+
+-- the name that a thread waits for, with the request in its place
+abbrev pub name_waited : Table → Asked → ℕ → Option LockName
+name_waited t asked a = cond (a == asked.start) (Some asked.name) (option_map (λ e. e.name) (find (is_of a) t.waiting))
+
+-- the threads that a waits for, with the request in its place
+unfoldable pub next : Table → Asked → ℕ → List ℕ
+next t asked a = option_map_or (λ name. targets (holders t name) (queue_at t asked name) a) (name_waited t asked a) []

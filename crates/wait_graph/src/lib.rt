@@ -2,6 +2,7 @@
 #![tactic(auto)]
 
 pub mod cycle;
+mod next;
 mod search;
 mod targets;
 #[cfg(test)]

@@ -1,12 +1,12 @@
 //! The search along waits.
 ghost use Rattle.std.specs.Prelude.{◌≡◌, ◌<◌, ◌≤◌, ◌+◌, ℕ, OnOk, IfOk, IfSome, length, slice_index, Ok, None, Some, true, false, List};
 ghost use Rattle.wait_graph.specs.Cycles.{IsCycle};
-ghost use Rattle.wait_graph.specs.Targets.{targets as targets_of, among};
+ghost use Rattle.wait_graph.specs.Targets.{next as next_of, among};
 ghost use Rattle.wait_graph.specs.Search.{Waits, IsTree, IsClosedAt, IsLonger, AreAll};
 
-use crate::targets::targets;
-use ids_base::lock::LockEntry;
+use crate::next::{Asked, next};
 use ids_base::numbers::ThreadNo;
+use lock_table::Locks;
 use std::alloc::{AllocError, Global};
 
 // The threads found, and for each the place of the one that it was found from. `most` bounds how many there can be.
@@ -26,17 +26,16 @@ fn is_among(thread: ThreadNo, threads: &[ThreadNo]) -> bool
 // Adds a thread that the one at place `from` waits for, unless it is there.
 fn add(
     found: &mut Found,
-    held: &[LockEntry],
-    waiting: &[LockEntry],
-    start: ThreadNo,
+    locks: &Locks,
+    asked: &Asked,
     from: usize,
     thread: ThreadNo,
 ) -> Result<(), AllocError>
-    requires tree { IsTree (targets_of held.now waiting.now) start found.old.threads.items found.old.parents.items }
+    requires tree { IsTree (next_of locks.now asked.now) asked.now.start found.old.threads.items found.old.parents.items }
     requires from { from < length found.old.threads.items }
-    requires waits { Waits (targets_of held.now waiting.now) (slice_index found.old.threads.items from) thread }
+    requires waits { Waits (next_of locks.now asked.now) (slice_index found.old.threads.items from) thread }
     requires bounded { length found.old.threads.items ≤ found.old.most }
-    ensures tree { OnOk result (IsTree (targets_of held.now waiting.now) start found.new.threads.items found.new.parents.items) }
+    ensures tree { OnOk result (IsTree (next_of locks.now asked.now) asked.now.start found.new.threads.items found.new.parents.items) }
     ensures there { OnOk result (among thread found.new.threads.items ≡ true) }
     ensures longer { OnOk result (IsLonger found.old.threads.items found.new.threads.items) }
     ensures bounded { OnOk result (length found.new.threads.items ≤ found.new.most) }
@@ -53,32 +52,31 @@ fn add(
     Ok(())
 }
 
-// Adds these threads, which the one at place `at` waits for, up to `start`; tells whether `start` is among them.
+// Adds these threads, which the one at place `at` waits for, up to the requester; tells whether it is among them.
 fn add_all(
     found: &mut Found,
-    held: &[LockEntry],
-    waiting: &[LockEntry],
+    locks: &Locks,
+    asked: &Asked,
     at: usize,
-    start: ThreadNo,
     next: &[ThreadNo],
 ) -> Result<bool, AllocError>
-    requires start { slice_index found.old.threads.items 0 ≡ start }
-    requires tree { IsTree (targets_of held.now waiting.now) start found.old.threads.items found.old.parents.items }
+    requires start { slice_index found.old.threads.items 0 ≡ asked.now.start }
+    requires tree { IsTree (next_of locks.now asked.now) asked.now.start found.old.threads.items found.old.parents.items }
     requires at { at < length found.old.threads.items }
-    requires waits { (j : ℕ) → j < length next.now → Waits (targets_of held.now waiting.now) (slice_index found.old.threads.items at) (slice_index next.now j) }
+    requires waits { (j : ℕ) → j < length next.now → Waits (next_of locks.now asked.now) (slice_index found.old.threads.items at) (slice_index next.now j) }
     requires bounded { length found.old.threads.items ≤ found.old.most }
-    ensures tree { OnOk result (IsTree (targets_of held.now waiting.now) start found.new.threads.items found.new.parents.items) }
-    ensures closes { result ≡ Ok true → among start next.now ≡ true }
-    ensures closed { result ≡ Ok false → AreAll start found.new.threads.items next.now (length next.now) }
+    ensures tree { OnOk result (IsTree (next_of locks.now asked.now) asked.now.start found.new.threads.items found.new.parents.items) }
+    ensures closes { result ≡ Ok true → among asked.now.start next.now ≡ true }
+    ensures closed { result ≡ Ok false → AreAll asked.now.start found.new.threads.items next.now (length next.now) }
     ensures longer { OnOk result (IsLonger found.old.threads.items found.new.threads.items) }
     ensures bounded { OnOk result (length found.new.threads.items ≤ found.new.most) }
     ensures most { found.new.most ≡ found.old.most }
 {
     for thread in next {
-        if *thread == start {
+        if *thread == asked.start {
             return Ok(true);
         }
-        add(found, held, waiting, start, at, *thread)?;
+        add(found, locks, asked, at, *thread)?;
     }
     Ok(false)
 }
@@ -87,38 +85,37 @@ fn add_all(
 fn explore(
     alloc: Global,
     found: &mut Found,
-    held: &[LockEntry],
-    waiting: &[LockEntry],
+    locks: &Locks,
+    asked: &Asked,
     at: usize,
-    start: ThreadNo,
 ) -> Result<bool, AllocError>
-    requires start { slice_index found.old.threads.items 0 ≡ start }
-    requires tree { IsTree (targets_of held.now waiting.now) start found.old.threads.items found.old.parents.items }
+    requires start { slice_index found.old.threads.items 0 ≡ asked.now.start }
+    requires tree { IsTree (next_of locks.now asked.now) asked.now.start found.old.threads.items found.old.parents.items }
     requires at { at < length found.old.threads.items }
     requires bounded { length found.old.threads.items ≤ found.old.most }
-    ensures tree { OnOk result (IsTree (targets_of held.now waiting.now) start found.new.threads.items found.new.parents.items) }
-    ensures closes { result ≡ Ok true → Waits (targets_of held.now waiting.now) (slice_index found.old.threads.items at) start }
-    ensures closed { result ≡ Ok false → IsClosedAt (targets_of held.now waiting.now) start found.new.threads.items at }
+    ensures tree { OnOk result (IsTree (next_of locks.now asked.now) asked.now.start found.new.threads.items found.new.parents.items) }
+    ensures closes { result ≡ Ok true → Waits (next_of locks.now asked.now) (slice_index found.old.threads.items at) asked.now.start }
+    ensures closed { result ≡ Ok false → IsClosedAt (next_of locks.now asked.now) asked.now.start found.new.threads.items at }
     ensures longer { OnOk result (IsLonger found.old.threads.items found.new.threads.items) }
     ensures bounded { OnOk result (length found.new.threads.items ≤ found.new.most) }
     ensures most { found.new.most ≡ found.old.most }
 {
-    let next = targets(alloc, held, waiting, found.threads[at])?;
-    add_all(found, held, waiting, at, start, next.as_slice())
+    let next = next(alloc, locks, asked, found.threads[at])?;
+    add_all(found, locks, asked, at, next.as_slice())
 }
 
 // The cycle that the thread at place `last` closes by waiting for the first one.
 fn path_to(
     alloc: Global,
     found: &Found,
-    held: &[LockEntry],
-    waiting: &[LockEntry],
+    locks: &Locks,
+    asked: &Asked,
     last: usize,
 ) -> Result<Vec<ThreadNo>, AllocError>
-    requires tree { IsTree (targets_of held.now waiting.now) (slice_index found.now.threads.items 0) found.now.threads.items found.now.parents.items }
+    requires tree { IsTree (next_of locks.now asked.now) (slice_index found.now.threads.items 0) found.now.threads.items found.now.parents.items }
     requires last { last < length found.now.threads.items }
-    requires closes { Waits (targets_of held.now waiting.now) (slice_index found.now.threads.items last) (slice_index found.now.threads.items 0) }
-    ensures { IfOk result (λ v. IsCycle (Waits (targets_of held.now waiting.now)) (slice_index found.now.threads.items 0) v.items) }
+    requires closes { Waits (next_of locks.now asked.now) (slice_index found.now.threads.items last) (slice_index found.now.threads.items 0) }
+    ensures { IfOk result (λ v. IsCycle (Waits (next_of locks.now asked.now)) (slice_index found.now.threads.items 0) v.items) }
 {
     let mut path = Vec::new(alloc);
     let mut at = last;
@@ -132,21 +129,20 @@ fn path_to(
     Ok(path)
 }
 
-// The cycle that `start` closes, if there is one.
+/// The cycle that the requester closes, if there is one.
 pub fn find_cycle(
     alloc: Global,
-    held: &[LockEntry],
-    waiting: &[LockEntry],
-    start: ThreadNo,
+    locks: &Locks,
+    asked: &Asked,
 ) -> Result<Option<Vec<ThreadNo>>, AllocError>
-    ensures found { IfOk result (λ o. IfSome o (λ v. IsCycle (Waits (targets_of held.now waiting.now)) start v.items)) }
-    ensures none { result ≡ Ok None → (threads : List ℕ) → IsCycle (Waits (targets_of held.now waiting.now)) start threads → ⊥ }
+    ensures found { IfOk result (λ o. IfSome o (λ v. IsCycle (Waits (next_of locks.now asked.now)) asked.now.start v.items)) }
+    ensures none { result ≡ Ok None → (threads : List ℕ) → IsCycle (Waits (next_of locks.now asked.now)) asked.now.start threads → ⊥ }
 {
     let mut threads = Vec::new(alloc);
-    threads.push(start)?;
+    threads.push(asked.start)?;
     let mut parents = Vec::new(alloc);
     parents.push(0)?;
-    let most = held.len().saturating_add(waiting.len()).saturating_add(1);
+    let most = (locks.entry_count() as usize).saturating_add(1);
     let mut found = Found {
         threads,
         parents,
@@ -154,8 +150,8 @@ pub fn find_cycle(
     };
     let mut at = 0;
     while at < found.threads.len() {
-        if explore(alloc, &mut found, held, waiting, at, start)? {
-            return Ok(Some(path_to(alloc, &found, held, waiting, at)?));
+        if explore(alloc, &mut found, locks, asked, at)? {
+            return Ok(Some(path_to(alloc, &found, locks, asked, at)?));
         }
         at += 1;
     }

@@ -1,6 +1,4 @@
 //! Worked examples.
-ghost use Rattle.std.specs.Prelude.{◌≡◌};
-ghost use Rattle.lock_table.specs.Table.{waits as is_waiting};
 
 use crate::closes_cycle;
 use ids_base::lock::{LockMode, LockName};
@@ -9,12 +7,6 @@ use lock_table::{LockAnswer, Locks};
 use std::process::Abort;
 use std::test::Fail;
 
-fn waits(locks: &Locks, thread: ThreadNo) -> bool
-    ensures { result ≡ is_waiting locks.now thread }
-{
-    locks.waiting().iter().any(|entry| entry.thread == thread)
-}
-
 fn ask(
     rt: &impl Abort,
     locks: &mut Locks,
@@ -22,7 +14,7 @@ fn ask(
     name: LockName,
     mode: LockMode,
 ) -> LockAnswer {
-    assert!(rt; !waits(locks, thread));
+    assert!(rt; locks.waits_for(thread).is_none());
     locks.request(thread, name, mode, true)
 }
 
@@ -50,9 +42,14 @@ fn two_conversions(rt: HostRuntime) -> Result<(), Fail> {
         ask(&rt, &mut locks, 1, name, LockMode::X),
         LockAnswer::Waits
     );
-    assert!(rt; !waits(&locks, 2));
+    assert!(rt; locks.waits_for(2).is_none());
     let cycle = closes_cycle(rt.alloc(), &locks, 2, name, LockMode::X)?;
     assert_eq!(rt; cycle.ok_or("none")?.as_slice(), [2, 1].as_slice());
+    locks.release_all(2);
+    assert_eq!(rt; locks.next_granted(), Some(1));
+    assert_eq!(rt; locks.holds(1, name), Some(LockMode::X));
+    assert_eq!(rt; locks.next_granted(), None);
+    assert!(rt; locks.waits_for(3).is_some());
     Ok(())
 }
 
@@ -73,8 +70,9 @@ fn waits_in_a_line(rt: HostRuntime) -> Result<(), Fail> {
         ask(&rt, &mut locks, 2, table(103), LockMode::X),
         LockAnswer::Waits
     );
-    assert!(rt; !waits(&locks, 3) && !waits(&locks, 4));
+    assert!(rt; locks.waits_for(4).is_none());
     assert!(rt; closes_cycle(rt.alloc(), &locks, 4, table(101), LockMode::X)?.is_none());
+    assert!(rt; locks.waits_for(3).is_none());
     let cycle = closes_cycle(rt.alloc(), &locks, 3, table(101), LockMode::S)?;
     assert_eq!(rt; cycle.ok_or("none")?.as_slice(), [3, 1, 2].as_slice());
     Ok(())

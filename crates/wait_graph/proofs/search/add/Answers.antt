@@ -1,6 +1,6 @@
 use Rattle.std.proofs.Common.{◌≡◌, ◌∙◌, ◌++◌, ◌∷◌, [], sym, ap, subst, false}
 use Rattle.wait_graph.specs.Search.{IsTree}
-use Rattle.wait_graph.specs.Targets.{targets, among}
+use Rattle.wait_graph.specs.Targets.{next as next_of, among}
 use Rattle.wait_graph.proofs.Trees.{tree-push}
 use Rattle.wait_graph.proofs.search.add.Goals as goal
 
@@ -8,8 +8,8 @@ pub returns-clause-tree : goal.returns-clause-tree
 returns-clause-tree c =
     let f = c.args.found.now in
     let out : among c.args.thread f.threads.items ≡ false = ap (among c.args.thread) (sym c.as_slice.ensures.value) ∙ sym c.is_among.ensures ∙ c.if-is_among.false in
-    let next = targets c.args.held.now c.args.waiting.now in
-    let start = c.args.start in
+    let next = next_of c.args.locks.now c.args.asked.now in
+    let start = c.args.asked.now.start in
     subst (λ v. IsTree next start v c.push-2.new.self.items) (sym c.in_ok-push.ensures.items)
     (subst (λ v. IsTree next start (f.threads.items ++ c.args.thread ∷ []) v) (sym c.in_ok-push-2.ensures.items)
     (tree-push next start f.threads.items f.parents.items c.args.from c.args.thread c.requires.tree c.requires.from c.requires.waits out))

@@ -1,6 +1,6 @@
 use Rattle.std.proofs.Common.{◌≡◌, ◌≢◌, ◌∙◌, ◌<◌, ◌+◌, ℕ, sym, ap, subst, length, slice_index, arith, refl, ◌⊎◌, inl, inr, false, true, Ok, List, vec_len}
 use Rattle.std.proofs.lemmas.Bool.Decides.{eqb_tells}
-use Rattle.wait_graph.specs.Targets.{targets, among}
+use Rattle.wait_graph.specs.Targets.{next as next_of, among}
 use Rattle.wait_graph.specs.Search.{IsTree, IsClosedAt, IsLonger}
 use Rattle.wait_graph.proofs.Trees.{none-closed, closed-longer, at-among}
 use Rattle.wait_graph.proofs.search.find_cycle.Goals as goal
@@ -13,7 +13,7 @@ closed-more next start old new n low l before now j lt = elim (eqb_tells j n) as
 
 pub loop-at-preserved : goal.loop-at-preserved
 loop-at-preserved c =
-    let next = targets c.args.held.now c.args.waiting.now in
+    let next = next_of c.args.locks.now c.args.asked.now in
     let i = c.loop-at.invariant in
     let old = c.loop-at.found.threads.items in
     let new = c.explore.new.found.threads.items in
@@ -25,15 +25,15 @@ loop-at-preserved c =
       bounded = c.in_ok-explore.ensures.bounded;
       most = c.in_ok-explore.ensures.most ∙ i.most;
       within = (let l = c.in_ok-explore.ensures.longer.length_grows in omega (arith, l, low));
-      closed = closed-more next c.args.start old new c.loop-at.at low c.in_ok-explore.ensures.longer i.closed (c.in_ok-explore.ensures.closed (ap Ok c.if-branch.false));
+      closed = closed-more next c.args.asked.now.start old new c.loop-at.at low c.in_ok-explore.ensures.longer i.closed (c.in_ok-explore.ensures.closed (ap Ok c.if-branch.false));
     }
 
 pub returns-clause-none : goal.returns-clause-none
 returns-clause-none c = λ h threads cycle.
-    let next = targets c.args.held.now c.args.waiting.now in
+    let next = next_of c.args.locks.now c.args.asked.now in
     let i = c.loop-at.invariant in
     let found = c.loop-at.found.threads.items in
     let e : vec_len c.loop-at.found.threads ≡ length found = c.loop-at.found.threads.ok.0 in
     let far = c.loop-at-test.false in let len = c.len.ensures in
-    none-closed next c.args.start found (λ j lt. i.closed j (omega (arith, e, far, len, lt)))
+    none-closed next c.args.asked.now.start found (λ j lt. i.closed j (omega (arith, e, far, len, lt)))
     (subst (λ n. among n found ≡ true) i.tree.first (at-among found 0 i.tree.some)) threads cycle

@@ -1,13 +1,13 @@
-use Rattle.std.proofs.Common.{◌≡◌, ◌∙◌, sym, ap, subst, ℕ, Option, Some, None, refl}
-use Rattle.lock_table.specs.Parts.{table_of}
-use Rattle.lock_table.specs.Table.{Table, IsTold}
-use Rattle.lock_table.specs.Sound.{IsSound}
-use Rattle.lock_table.proofs.Soundness.{told-sound}
+use Rattle.std.proofs.Common.{arith}
+use Rattle.lock_table.specs.Book.{table_of}
+use Rattle.lock_table.proofs.Table.{told-either}
 use Rattle.lock_table.proofs.locks.Locks.next_granted.Goals as goal
 
-either : (o : Option ℕ) (t u : Table) → (o ≡ None → u ≡ t) → ((n : ℕ) → o ≡ Some n → IsTold t u n) → IsSound t → IsSound u
-either None t u f g s = subst (λ v. IsSound v) (sym (f refl)) s
-either (Some n) t u f g s = told-sound t u n (g n refl) s
-
 pub invariant_of-self : goal.invariant_of-self
-invariant_of-self c = either c.tell.result _ _ c.tell.ensures.none c.tell.ensures.told c.self.invariant
+invariant_of-self c =
+    let b = c.self.inside.book in
+    let k = told-either c.next_told.result (table_of b) (table_of c.next_told.new.self) c.next_told.ensures.none c.next_told.ensures.told c.self.invariant.sound in
+    let e = k.1 in
+    let h = c.self.invariant.held_room in
+    let w = c.self.invariant.waiting_room in
+    record { sound = k.0; held_room = omega (arith, e, h); waiting_room = omega (arith, e, w) }

@@ -1,48 +1,62 @@
-use Rattle.std.proofs.Common.{◌≡◌, ◌∙◌, ◌<◌, ◌+◌, ◌≤◌, sym, ap, subst, true, false, not, length, arith, take, is_some, ◌&&◌, refl, Option, ◌⊎◌, inl, inr, ℕ, Bool}
-use Rattle.std.proofs.lemmas.Bool.Decides.{leb_tells}
-use Rattle.ids_base.specs.declared.lock.LockEntry.{LockEntry}
-use Rattle.ids_base.specs.declared.lock.LockName.{LockName}
-use Rattle.ids_base.specs.declared.lock.LockMode.{LockMode}
-use Rattle.lock_table.specs.Parts.{table_of}
-use Rattle.lock_table.specs.Table.{Table, without_lock, mode_held, holders, is_full, is_blocked, entry_count, waits}
-use Rattle.lock_table.specs.Requests.{wanted, mode_wanted, taken}
-use Rattle.lock_table.specs.Sound.{IsSound}
-use Rattle.lock_table.proofs.Soundness.{lock-room, wanted-sound, wait-sound}
+use Rattle.std.proofs.Common.{◌≡◌, ◌∙◌, ap, sym, subst, arith, true, false, refl, not, is_some, ◌&&◌, Bool}
+use Rattle.lock_table.specs.Book.{table_of}
+use Rattle.lock_table.specs.Table.{line, holders, queue, has_thread, WaitsNowhere, Becomes}
+use Rattle.lock_table.specs.Requests.{wanted, taken, queued, with_waiter, is_overtaken}
+use Rattle.lock_table.proofs.Table.{has-room, mode-none, find-has, after-taken, as-queued, after-queued}
 use Rattle.lock_table.proofs.locks.Locks.request.Goals as goal
 
-has-room : (t : Table) (o : Option LockMode) (thread : ℕ) (name : LockName) (b lacks : Bool) → o ≡ mode_held (holders t) thread name → b ≡ is_some o → lacks ≡ (not b && is_full t) → lacks ≡ false
-    → (not (is_some (mode_held (holders t) thread name)) && is_full t) ≡ false
-has-room t o thread name b lacks e f g h = ap (λ x. not x && is_full t) (sym (f ∙ ap is_some e)) ∙ sym g ∙ h
+not-back : (a b : Bool) → not a ≡ not b → a ≡ b
+not-back true true h = refl
+not-back true false h = cc
+not-back false true h = cc
+not-back false false h = refl
 
-lock-is : (t : Table) (o : Option LockMode) (thread : ℕ) (name : LockName) (mode m : LockMode) → o ≡ mode_held (holders t) thread name → m ≡ mode_wanted o mode
-    → wanted t thread name mode ≡ record { thread = thread; name = name; mode = m }
-lock-is t o thread name mode m e f = let build : LockMode → LockEntry = λ x. record { thread = thread; name = name; mode = x } in ap build (sym (f ∙ ap (λ x. mode_wanted x mode) e))
+pub take-requires-clause-room : goal.take-requires-clause-room
+take-requires-clause-room c = λ h.
+    let b = c.self.inside.book in
+    let none = mode-none (holders (table_of b) c.args.name) c.args.thread (subst (λ k. has_thread k.thread (holders (table_of b) k.name) ≡ false) c.look-asked.ensures.lock h) in
+    has-room b (sym c.is_full.ensures ∙ sym (ap (λ o. not (is_some o) && c.is_full.result) (c.look-asked.ensures.mode ∙ none)) ∙ sym c.lacks_room.ensures ∙ c.if-lacks_room.false)
 
-not-full : (t : Table) (b : Bool) → b ≡ is_full t → b ≡ false → entry_count t < t.limit
-not-full t b e f = elim (leb_tells t.limit (entry_count t)) [ inl x ↦ absurd (let k : is_full t ≡ false = sym e ∙ f in let y = x.0 in cc) | inr y ↦ y.1 ]
+pub invariant_of-self-then-not-asked : goal.invariant_of-self-then-not-asked
+invariant_of-self-then-not-asked c =
+    let b = c.self.inside.book in
+    let t = table_of b in
+    let u = table_of c.take.new.self in
+    let line-is = subst (λ k. Becomes t u k.name (taken (line t k.name) k)) c.look-asked.ensures.lock c.take.ensures.line in
+    let e = line-is.limit in
+    let h = c.self.invariant.held_room in
+    let w = c.self.invariant.waiting_room in
+    let p = c.look-asked.ensures.held in
+    let q = c.look-asked.ensures.waiting in
+    record { sound = after-taken t c.take.new.self c.args.thread c.args.name c.args.mode c.self.invariant.sound line-is (sym c.look-asked.ensures.against ∙ not-back _ false c.if-not-asked.true); held_room = omega (arith, e, h, p); waiting_room = omega (arith, e, w, q) }
 
-pub take-requires : goal.take-requires
-take-requires c =
-    let t = table_of c.self.inside.parts in
-    let room = lock-room t c.args.thread c.args.name c.self.invariant.limited
-    (has-room t _ c.args.thread c.args.name _ _ c.mode_held-held.ensures c.is_some-then-not-is_blocked.ensures c.lacks_room.ensures c.if-lacks_room.false) in
-    omega (arith, room)
-
-pub invariant_of-self : goal.invariant_of-self
-invariant_of-self c =
-    let t = table_of c.self.inside.parts in
-    let e = lock-is t _ c.args.thread c.args.name c.args.mode _ c.mode_held-held.ensures c.mode_wanted-mode.ensures in
-    let free : false ≡ is_blocked (holders t) (take c.place_of-place.result c.self.inside.parts.waiting.items) (record { thread = c.args.thread; name = c.args.name; mode = c.mode_wanted-mode.result }) = c.if-not-is_blocked.ensures in
-    subst (λ v. IsSound v) (ap (taken t) e ∙ sym c.take.ensures)
-    (wanted-sound t c.args.thread c.args.name c.args.mode (take c.place_of-place.result c.self.inside.parts.waiting.items) c.self.invariant
-    (ap (is_blocked (holders t) (take c.place_of-place.result c.self.inside.parts.waiting.items)) e ∙ sym free)
-    (has-room t _ c.args.thread c.args.name _ _ c.mode_held-held.ensures c.is_some-then-not-is_blocked.ensures c.lacks_room.ensures c.if-lacks_room.false))
+pub enqueue-requires-clause-there : goal.enqueue-requires-clause-there
+enqueue-requires-clause-there c = λ n h.
+    let t = table_of c.self.inside.book in
+    subst (λ k. has_thread n (queue t k.name) ≡ true) (sym c.look-asked.ensures.lock)
+    (find-has (is_overtaken (holders t c.args.name) c.args.thread) (queue t c.args.name) n (sym c.look-asked.ensures.before ∙ h))
 
 pub invariant_of-self-2 : goal.invariant_of-self-2
 invariant_of-self-2 c =
-    let t = table_of c.self.inside.parts in
-    let blocked : true ≡ is_blocked (holders t) (take c.place_of-place.result c.self.inside.parts.waiting.items) (record { thread = c.args.thread; name = c.args.name; mode = c.mode_wanted-mode.result }) = c.if-not-is_blocked.ensures in
-    let out : waits t c.args.thread ≡ false = ap (λ v. waits v c.args.thread) c.self.view_is ∙ c.requires in
-    subst (λ v. IsSound v) (sym c.enqueue.ensures)
-    (wait-sound t c.place_of-place.result (record { thread = c.args.thread; name = c.args.name; mode = c.mode_wanted-mode.result }) c.self.invariant
-    (not-full t _ c.is_full.ensures c.if-is_full.false) out (sym blocked))
+    let b = c.self.inside.book in
+    let t = table_of b in
+    let u = table_of c.enqueue.new.self in
+    let w = wanted (line t c.args.name) c.args.thread c.args.name c.args.mode in
+    let was = subst (λ k. Becomes t u k.name (with_waiter (line t k.name) k c.look-asked.result.before)) c.look-asked.ensures.lock c.enqueue.ensures.line in
+    let line-is = subst (λ l. Becomes t u c.args.name l) (as-queued t c.args.name w c.look-asked.result.before c.self.invariant.sound c.look-asked.ensures.before) was in
+    let e = line-is.limit in
+    let h = c.self.invariant.held_room in
+    let g = c.self.invariant.waiting_room in
+    let p = c.look-asked.ensures.held in
+    let q = c.look-asked.ensures.waiting in
+    record { sound = after-queued t c.enqueue.new.self c.args.thread c.args.name c.args.mode c.self.invariant.sound line-is (sym c.look-asked.ensures.against ∙ not-back _ true c.if-not-asked.false) (subst (λ v. WaitsNowhere v c.args.thread) (sym c.self.view_is) c.requires); held_room = omega (arith, e, h, p); waiting_room = omega (arith, e, g, q) }
+
+pub returns-clause-waits : goal.returns-clause-waits
+returns-clause-waits c = λ f g h i.
+    let b = c.self.inside.book in
+    let t = table_of b in
+    let u = table_of c.enqueue.new.self in
+    let w = wanted (line t c.args.name) c.args.thread c.args.name c.args.mode in
+    let was = subst (λ k. Becomes t u k.name (with_waiter (line t k.name) k c.look-asked.result.before)) c.look-asked.ensures.lock c.enqueue.ensures.line in
+    let line-is = subst (λ l. Becomes t u c.args.name l) (as-queued t c.args.name w c.look-asked.result.before c.self.invariant.sound c.look-asked.ensures.before) was in
+    (refl, subst (λ v. Becomes v u c.args.name (queued (line v c.args.name) (wanted (line v c.args.name) c.args.thread c.args.name c.args.mode))) c.self.view_is line-is)
