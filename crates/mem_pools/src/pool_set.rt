@@ -285,6 +285,7 @@ fn fill(block: &mut [u8; 2048], at: usize, piece: &[u8])
 #[cfg(test)]
 mod tests {
     use super::*;
+    use std::process::Abort;
     use std::test::Fail;
 
     /// A new pool takes all of 16 blocks, and then neither a byte nor a pool is to be had until it is freed.
@@ -322,5 +323,160 @@ mod tests {
         assert!(rt; pools.stands(next));
         assert_eq!(rt; pools.owner(next), 8);
         Ok(())
+    }
+
+    /// A pool as a plain list of bytes.
+    #[derive(Drop)]
+    struct Plain {
+        pool: u32,
+        owner: ThreadNo,
+        bytes: Vec<u8>,
+    }
+
+    /// Three thousand calls beside plain lists.
+    #[test]
+    fn agrees_with_lists(rt: HostRuntime) -> Result<(), Fail> {
+        let mut pools = Pools::new(rt.alloc(), 16, 4)?;
+        let mut plain = Vec::new(rt.alloc());
+        let mut draw = 12345u32;
+        for _ in 0..3000 {
+            draw = draw.wrapping_mul(1103515245).wrapping_add(12345) % 2147483648;
+            let number = draw / 65536;
+            match number % 7 {
+                0 | 1 => makes(&rt, rt.alloc(), &mut pools, &mut plain, number / 7)?,
+                2 => frees(&rt, rt.alloc(), &mut pools, &mut plain, number / 7)?,
+                _ => grows(&rt, rt.alloc(), &mut pools, &mut plain, number / 7)?,
+            }
+        }
+        Ok(())
+    }
+
+    /// A new pool, where one more may stand.
+    fn makes(
+        rt: &impl Abort,
+        alloc: Global,
+        pools: &mut Pools,
+        plain: &mut Vec<Plain>,
+        owner: ThreadNo,
+    ) -> Result<(), AllocError> {
+        assert_eq!(rt; pools.standing() as usize, plain.len());
+        if pools.standing() == pools.limit() {
+            return Ok(());
+        }
+        let taken = blocks_of(plain);
+        assert!(rt; pools.standing() < pools.limit());
+        match pools.new_pool(owner) {
+            Ok(pool) => {
+                assert!(rt; taken < 16);
+                plain.push(Plain {
+                    pool,
+                    owner,
+                    bytes: Vec::new(alloc),
+                })?;
+            }
+            Err(refusal) => {
+                assert_eq!(rt; (refusal, taken), (NoPool { wanted: 1, free: 0 }, 16));
+            }
+        }
+        Ok(())
+    }
+
+    /// One of the pools ends.
+    fn frees(
+        rt: &impl Abort,
+        alloc: Global,
+        pools: &mut Pools,
+        plain: &mut Vec<Plain>,
+        number: u32,
+    ) -> Result<(), AllocError> {
+        if !plain.is_empty() {
+            let ended = plain.swap_remove(number as usize % plain.len());
+            compare(rt, alloc, pools, &ended)?;
+            assert!(rt; pools.stands(ended.pool));
+            pools.free_pool(ended.pool);
+            assert!(rt; !pools.stands(ended.pool));
+            assert_eq!(rt;
+                u64::from(pools.free()),
+                16u64.saturating_sub(blocks_of(plain))
+            );
+        }
+        Ok(())
+    }
+
+    /// Bytes more for one of the pools, where there are blocks for them.
+    fn grows(
+        rt: &impl Abort,
+        alloc: Global,
+        pools: &mut Pools,
+        plain: &mut Vec<Plain>,
+        number: u32,
+    ) -> Result<(), AllocError> {
+        let free = 16u64.saturating_sub(blocks_of(plain));
+        if plain.is_empty() {
+            return Ok(());
+        }
+        let place = number as usize % plain.len();
+        let grown = &mut plain[place];
+        let bytes = some_bytes(alloc, number)?;
+        let len = grown.bytes.len() as u64;
+        let wanted = blocks_for(len.saturating_add(bytes.len() as u64)).saturating_sub(blocks_for(
+            len,
+        ));
+        assert!(rt; pools.stands(grown.pool));
+        assert!(rt; bytes.len() < 10000);
+        match pools.append(grown.pool, &bytes) {
+            Ok(()) => {
+                assert!(rt; wanted <= free);
+                grown.bytes.extend_from_slice(&bytes)?;
+            }
+            Err(refusal) => {
+                assert!(rt; wanted > free);
+                assert_eq!(rt;
+                    (u64::from(refusal.wanted), u64::from(refusal.free)),
+                    (wanted, free)
+                );
+            }
+        }
+        compare(rt, alloc, pools, grown)
+    }
+
+    /// A pool has the same owner and bytes as its plain list.
+    fn compare(
+        rt: &impl Abort,
+        alloc: Global,
+        pools: &Pools,
+        plain: &Plain,
+    ) -> Result<(), AllocError> {
+        assert!(rt; pools.stands(plain.pool));
+        assert_eq!(rt; pools.owner(plain.pool), plain.owner);
+        assert!(rt; pools.bytes(alloc, plain.pool)? == plain.bytes);
+        assert_eq!(rt;
+            u64::from(pools.blocks(plain.pool)),
+            blocks_for(plain.bytes.len() as u64)
+        );
+        Ok(())
+    }
+
+    /// Up to some thousand bytes that hang on a number.
+    fn some_bytes(alloc: Global, number: u32) -> Result<Vec<u8>, AllocError> {
+        let mut bytes = Vec::new(alloc);
+        for k in 0..number % 5000 {
+            bytes.push((k % 251) as u8 ^ (number % 256) as u8)?;
+        }
+        Ok(bytes)
+    }
+
+    /// How many blocks hold so many bytes.
+    fn blocks_for(bytes: u64) -> u64 {
+        bytes.div_ceil(2048).max(1)
+    }
+
+    /// How many blocks the pools have.
+    fn blocks_of(plain: &[Plain]) -> u64 {
+        let mut blocks = 0u64;
+        for pool in plain {
+            blocks = blocks.saturating_add(blocks_for(pool.bytes.len() as u64));
+        }
+        blocks
     }
 }

@@ -1,3 +1,10 @@
 pub mod Counting
+pub mod Ids
+pub mod Laying
+pub mod Leaving
+pub mod Moving
 pub mod Removing
+pub mod Roots
+pub mod Telling
 pub mod Ticking
+pub mod Trees

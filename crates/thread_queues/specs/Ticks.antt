@@ -29,6 +29,10 @@ due_threads p = reached p.tick (limits_of_waits p.waits ++ limits_of_sleeps p.sl
 abbrev pub is_before : Due → Due → Bool
 is_before a b = nat_lt a.tick b.tick || (a.tick == b.tick && nat_lt a.thread b.thread)
 
+-- the same of sleeping threads
+abbrev pub is_due_before : Sleeper → Sleeper → Bool
+is_due_before a b = nat_lt a.due b.due || (a.due == b.due && nat_lt a.thread b.thread)
+
 abbrev pub earlier : Option Due → Due → Option Due
 earlier None d = Some d
 earlier (Some first) d = Some (if is_before d first then d else first)

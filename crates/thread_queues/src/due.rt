@@ -53,7 +53,7 @@ fn with_reached(first: Option<Due>, other: Due, now: u64) -> Option<Due>
     }
 }
 
-fn earlier_of(first: Option<Due>, other: Due) -> Option<Due>
+pub fn earlier_of(first: Option<Due>, other: Due) -> Option<Due>
     ensures { result ≡ earlier first other }
 {
     match first {

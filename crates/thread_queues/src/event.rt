@@ -1,4 +1,5 @@
 //! What a thread may wait for, and a thread that waits or sleeps.
+ghost use Rattle.std.specs.Prelude.{◌≡◌};
 
 use ids_base::class::Class;
 use ids_base::numbers::ThreadNo;
@@ -17,8 +18,29 @@ pub enum Event {
     Cleaning,
 }
 
+impl Event {
+    ghost use Rattle.thread_queues.specs.Events.{number_of};
+
+    /// The number of an event in the order of this type: by kind, then by the number of the frame or page.
+    pub fn number(self) -> u64
+        ensures { result ≡ number_of self }
+    {
+        match self {
+            Event::Lock => 0,
+            Event::Latch(frame) => 1 + u64::from(frame),
+            Event::Page(page) => 4294967297 + u64::from(page),
+            Event::LogFlush => 8589934593,
+            Event::PhysFlush => 8589934594,
+            Event::LogSpace => 8589934595,
+            Event::Checkpoint => 8589934596,
+            Event::Critical => 8589934597,
+            Event::Cleaning => 8589934598,
+        }
+    }
+}
+
 /// A thread that waits: for what, and until which tick at most.
-#[derive(Clone, Copy)]
+#[derive(Clone, Copy, PartialEq, Eq, Debug)]
 pub struct Waiter {
     pub event: Event,
     pub thread: ThreadNo,
@@ -27,7 +49,7 @@ pub struct Waiter {
 }
 
 /// A thread that sleeps until a tick.
-#[derive(Clone, Copy)]
+#[derive(Clone, Copy, PartialEq, Eq, Debug)]
 pub struct Sleeper {
     pub due: u64,
     pub thread: ThreadNo,

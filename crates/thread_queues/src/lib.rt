@@ -4,9 +4,13 @@
 #![tactic(auto)]
 
 mod due;
+mod limits;
 pub mod event;
 pub mod places;
 mod ready;
+mod slots;
+#[cfg(test)]
+mod tests;
 
 pub use event::Event;
 pub use places::Threads;

@@ -1,10 +1,12 @@
 //! The places of threads.
-ghost use Rattle.std.specs.Prelude.{◌≡◌, ◌==◌, ◌<◌, ◌≤◌, ◌+◌, ◌↔◌, ℕ, [], None, Some, IfOk, OnOk, OnErr, IsNone, IsSome, IsTrue, length, slice_get, option_map};
+ghost use Rattle.std.specs.Prelude.{◌≡◌, ◌==◌, ◌<◌, ◌≤◌, ◌+◌, ◌↔◌, ℕ, [], None, Some, IfOk, OnOk, OnErr, IsNone, IsSome, IsTrue, length, slice_get, option_map, map, is_some, IsPermutation};
 ghost use Rattle.std.specs.List.{position_or_len};
+ghost use Rattle.std.specs.List.Sorted.{IsSortedBy, IsSortedByKey, IsStableByKey};
+ghost use Rattle.std.specs.Ordering.{nat_cmp};
 ghost use Rattle.ids_base.specs.Classes.{class_of};
-ghost use Rattle.thread_queues.specs.Events.{is_event};
-ghost use Rattle.thread_queues.specs.Placed.{times as count, queue, running_at, thread_at, first_waiter, idle, spawned, dispatched, yielded, waiting, sleeping, ended, woken_one, woken_at, roused_at, woken, IsStill, IsPlaced};
-ghost use Rattle.thread_queues.specs.Ticks.{due_threads, first_due, still_count, raised, ticked};
+ghost use Rattle.thread_queues.specs.Events.{is_event, number_of};
+ghost use Rattle.thread_queues.specs.Placed.{times as count, queue, queue_of, waiter_of, sleeper_of, running_at, thread_at, first_waiter, idle, spawned, dispatched, yielded, waiting, sleeping, ended, woken_one, woken_at, roused_at, woken, IsStill, IsPlaced};
+ghost use Rattle.thread_queues.specs.Ticks.{due_threads, first_due, still_count, raised, ticked, is_due_before};
 
 use crate::due;
 use crate::event::{Due, Event, Sleeper, Waiter};
@@ -80,6 +82,73 @@ impl Threads {
         ensures { result ≡ running_at self.now vp }
     {
         self.running[vp as usize]
+    }
+
+    /// Whether a thread lives: it was spawned and has not ended. Looks through the live threads.
+    pub fn lives(&self, thread: ThreadNo) -> bool
+        ensures { IsTrue result ↔ (0 < count thread self.now.live) }
+    {
+        live_place(&self.live, thread) < self.live.len()
+    }
+
+    /// Whether a thread waits. Looks through the waiting threads.
+    pub fn waits(&self, thread: ThreadNo) -> bool
+        ensures { result ≡ is_some (waiter_of self.now thread) }
+    {
+        waiter_place(&self.waits, thread) < self.waits.len()
+    }
+
+    /// Whether a thread sleeps. Looks through the sleeping threads.
+    pub fn sleeps(&self, thread: ThreadNo) -> bool
+        ensures { result ≡ is_some (sleeper_of self.now thread) }
+    {
+        sleeper_place(&self.sleeps, thread) < self.sleeps.len()
+    }
+
+    /// The ready threads of a class, in the order of their queue. Takes time and memory in proportion to them.
+    pub fn ready(&self, alloc: Global, class: Class) -> Result<Vec<ThreadNo>, AllocError>
+        ensures { IfOk result (λ v. v.items ≡ queue self.now.ready class) }
+    {
+        self.ready.threads(alloc, class)
+    }
+
+    /// The threads that wait for an event, in the order of their queue. Looks through the waiting threads.
+    pub fn waiting_for(&self, alloc: Global, event: Event) -> Result<Vec<ThreadNo>, AllocError>
+        ensures { IfOk result (λ v. v.items ≡ map (λ w. w.thread) (queue_of self.now event)) }
+    {
+        let waits = &self.waits;
+        waits
+            .iter()
+            .filter(|waiter| same_event(waiter.event, event))
+            .map(|waiter| waiter.thread)
+            .collect(alloc)
+    }
+
+    /// All waiting threads, by event in the order of that type, those of one event in the order of their queue.
+    ///
+    /// Takes memory in proportion to them, and time in proportion to a sort of them.
+    pub fn waiting(&self, alloc: Global) -> Result<Vec<Waiter>, AllocError>
+        ensures all { IfOk result (λ v. IsPermutation self.now.waits v.items) }
+        ensures by_event { IfOk result (λ v. IsSortedByKey (λ w. number_of w.event) nat_cmp v.items) }
+        ensures by_queue { IfOk result
+            (λ v. IsStableByKey (λ w. number_of w.event) nat_cmp self.now.waits v.items) }
+    {
+        let mut waiters = Vec::from_slice(alloc, &self.waits)?;
+        waiters.sort_by_key(|waiter| waiter.event.number())?;
+        Ok(waiters)
+    }
+
+    /// All sleeping threads, by the tick when they are due, then by number.
+    ///
+    /// Takes memory in proportion to them, and time in proportion to a sort of them.
+    pub fn sleeping(&self, alloc: Global) -> Result<Vec<Sleeper>, AllocError>
+        ensures all { IfOk result (λ v. IsPermutation self.now.sleeps v.items) }
+        ensures by_tick { IfOk result (λ v. IsSortedBy is_due_before v.items) }
+    {
+        let mut sleepers = Vec::from_slice(alloc, &self.sleeps)?;
+        sleepers.sort_by_key(|sleeper| sleeper.thread)?;
+        sleepers.sort_by_key(|sleeper| sleeper.due)?;
+        Ok(sleepers)
     }
 
     /// Makes a thread, which goes to the end of its class's ready queue.

@@ -1,5 +1,5 @@
 //! The ready queues of the classes, with room reserved.
-ghost use Rattle.std.specs.Prelude.{◌≡◌, ◌<◌, ◌≤◌, ◌++◌, ◌∷◌, [], drop, length, slice_get, OnOk, OnErr};
+ghost use Rattle.std.specs.Prelude.{◌≡◌, ◌<◌, ◌≤◌, ◌++◌, ◌∷◌, [], drop, length, slice_get, IfOk, OnOk, OnErr};
 ghost use Rattle.thread_queues.specs.Placed.{queue, with_queue, Queues};
 ghost use Rattle.std.specs.VecDeque.{deque_capacity};
 
@@ -76,6 +76,18 @@ impl Ready {
         }
     }
 
+    /// The threads of a class, in order.
+    pub fn threads(&self, alloc: Global, class: Class) -> Result<Vec<ThreadNo>, AllocError>
+        ensures { IfOk result (λ v. v.items ≡ queue self.now.queues class) }
+    {
+        match class {
+            Class::Cpu => copied(alloc, &self.cpu),
+            Class::Lio => copied(alloc, &self.lio),
+            Class::Pio => copied(alloc, &self.pio),
+            Class::Aio => copied(alloc, &self.aio),
+        }
+    }
+
     /// Takes the first thread of a class.
     pub fn pop(&mut self, class: Class) -> Option<ThreadNo>
         ensures head { result ≡ slice_get (queue self.old.queues class) 0 }
@@ -101,4 +113,11 @@ fn reserve(queue: &mut VecDeque<ThreadNo>, room: usize) -> Result<(), AllocError
     let more = room.saturating_sub(queue.len());
     queue.reserve(more)?;
     Ok(())
+}
+
+/// The threads of a queue, in order.
+fn copied(alloc: Global, queue: &VecDeque<ThreadNo>) -> Result<Vec<ThreadNo>, AllocError>
+    ensures { IfOk result (λ v. v.items ≡ queue.now.items) }
+{
+    queue.iter().copied().collect(alloc)
 }

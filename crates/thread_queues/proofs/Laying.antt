@@ -1,0 +1,171 @@
+-- The lists, blocks and limits stand for the threads, as a thread goes into a queue and out of it.
+use Rattle.std.proofs.Common.{◌≡◌, ◌≢◌, ◌∙◌, ℕ, zero, suc, ◌+◌, ◌<◌, ◌≤◌, ◌==◌, Bool, true, false, cond, List, [], ◌∷◌, ◌++◌, length, map, get_or, refl, ap, sym, subst, arith, ◌⊎◌, inl, inr, Option, Some, None, IsSome}
+use Rattle.std.proofs.Math.ListN.{set}
+use Rattle.std.specs.List.{filter, find}
+use Rattle.std.proofs.lemmas.List.{get_or-set_same, get_or-set_other, length-set, length-map, map-append, map-set, same_lists}
+use Rattle.std.proofs.lemmas.Bool.{cases_eq, cases_lt, eq-eqb, ne_eqb}
+use Rattle.link_lists.specs.Lists.{Lists, list_at, home_at, list_count, id_count, ListBecomes, HomeBecomes, SameCounts, IsSound, has, Once, without}
+use Rattle.link_lists.proofs.Members.{has-both, not-has}
+use Rattle.thread_queues.specs.declared.event.Due.{Due}
+use Rattle.thread_queues.specs.declared.event.Event.{Event}
+use Rattle.thread_queues.specs.declared.event.Waiter.{Waiter}
+use Rattle.thread_queues.specs.Firsts.{due_at}
+use Rattle.thread_queues.specs.Placed.{times, without_first}
+use Rattle.thread_queues.specs.Slotted.{Slotted, queue_at, threads_of, put_in, taken_from, IsApart}
+use Rattle.thread_queues.specs.Laid.{no_waiter, block_at, number_at, bucket_of, bucket_in, limit_of, limit_in, slotted, IsLaid}
+use Rattle.thread_queues.proofs.Ids.{times-has, has-times, map-same, filter-same, has-filter, filter-end, filter-without, without-none, without-first-map, find-map}
+use Rattle.thread_queues.proofs.Moving.{not-in, lists-set, block-same, block-other, number-kept, taken-lists, map-lists}
+
+pub record IsPushed (old new : Lists) (l x : ℕ) : Type 0 where
+  pub list : ListBecomes old new l (list_at old l ++ x ∷ [])
+  pub home : HomeBecomes old new x (Some l)
+  pub counts : SameCounts old new
+  pub sound : IsSound new
+
+module _ (al qs bu : Lists) (bs : List Waiter) (li : List (Option Due)) (id_of : ℕ → Option ℕ) (laid : IsLaid al qs bu bs li id_of) where
+  some-same : (x l k : ℕ) → home_at qs x ≡ Some l → home_at qs x ≡ Some k → l ≡ k
+  some-same x l k e f = cc
+
+  none-some : (o : Option ℕ) (l : ℕ) → o ≡ None → o ≡ Some l → ⊥
+  none-some o l e f = cc
+
+  is-some : (o : Option ℕ) → IsSome o → (l : ℕ) × (o ≡ Some l)
+  is-some (Some l) h = (l, refl)
+  is-some None h = absurd h
+
+  -- the queues that are seen
+  queue-is : (q : ℕ) → queue_at (slotted al qs bs) q ≡ map (block_at bs) (list_at qs q)
+  queue-is q = map-lists (map (block_at bs)) qs.lists q refl
+
+  numbers-are : (xs : List ℕ) → threads_of (map (block_at bs) xs) ≡ map (number_at bs) xs
+  numbers-are [] = refl
+  numbers-are (x ∷ xs) = ap (λ (ns : List ℕ). number_at bs x ∷ ns) (numbers-are xs)
+
+  queue-numbers : (q : ℕ) → threads_of (queue_at (slotted al qs bs) q) ≡ map (number_at bs) (list_at qs q)
+  queue-numbers q = ap threads_of (queue-is q) ∙ numbers-are (list_at qs q)
+
+  -- a thread that lives has a place
+  pub live-found : (t : ℕ) → 0 < times t (slotted al qs bs).live → (x : ℕ) × (id_of t ≡ Some x) × (home_at al x ≡ Some 0) × (number_at bs x ≡ t)
+  live-found t h = let s = has-times (number_at bs) (list_at al 0) t h in let home = (laid.alive_sound.home 0 s.0).1 s.1 in (s.0, (laid.found t s.0).1 (home, s.2), home, s.2)
+
+  -- one that stands in no queue has a place that stands in none
+  pub apart-free : (t x : ℕ) → IsApart (slotted al qs bs) t → number_at bs x ≡ t → home_at qs x ≡ None
+  apart-free t x apart number = elim (home_at qs x) as (λ (o : Option ℕ). home_at qs x ≡ o → o ≡ None) [
+    | None ↦ (λ e. refl)
+    | Some q ↦ (λ e. let h = (laid.queues_sound.home q x).0 e in
+        let some : 0 < times (number_at bs x) (map (number_at bs) (list_at qs q)) = times-has (number_at bs) (list_at qs q) x h in
+        let none : times t (map (number_at bs) (list_at qs q)) ≡ 0 = ap (times t) (sym (queue-numbers q)) ∙ apart q in
+        let same : times (number_at bs x) (map (number_at bs) (list_at qs q)) ≡ times t (map (number_at bs) (list_at qs q)) = ap (λ (n : ℕ). times n (map (number_at bs) (list_at qs q))) number in
+        absurd (omega (arith, some, none, same)))
+  ] refl
+
+  -- one that stands in a queue has a place there
+  pub queue-found : (q t : ℕ) → 0 < times t (threads_of (queue_at (slotted al qs bs) q)) → (x : ℕ) × (id_of t ≡ Some x) × (home_at qs x ≡ Some q) × (number_at bs x ≡ t)
+  queue-found q t h =
+      let s = has-times (number_at bs) (list_at qs q) t (subst (λ (ns : List ℕ). 0 < times t ns) (queue-numbers q) h) in
+      let home = (laid.queues_sound.home q s.0).1 s.1 in
+      (s.0, (laid.found t s.0).1 (laid.lives s.0 q home, s.2), home, s.2)
+
+  -- a thread goes into a queue
+  module _ (qs' bu' : Lists) (q x : ℕ) (w : Waiter) (lt : q < 6) (live : home_at al x ≡ Some 0) (number : number_at bs x ≡ w.thread) (free : home_at qs x ≡ None)
+      (pushed : IsPushed qs qs' q x) (bucket : IsPushed bu bu' (bucket_in q w.event) x) where
+    there : x < id_count al
+    there = (laid.alive_sound.there 0 x live).1
+
+    in-blocks : x < length bs
+    in-blocks = omega (arith, there, laid.blocks_room)
+
+    nowhere : (l : ℕ) → has x (list_at qs l) ≡ false
+    nowhere l = not-in qs laid.queues_sound x l (λ h. none-some (home_at qs x) l free h)
+
+    blocks-kept : (l : ℕ) → map (block_at (set bs x w)) (list_at qs l) ≡ map (block_at bs) (list_at qs l)
+    blocks-kept l = map-same (block_at (set bs x w)) (block_at bs) (list_at qs l) (λ y h. block-other bs x y w (λ e. has-both y (list_at qs l) h (subst (λ (z : ℕ). has z (list_at qs l) ≡ false) (sym e) (nowhere l))))
+
+    -- the queues of the new lists and blocks are those of the old ones with one more
+    put-at : (k : ℕ) → get_or (map (λ ids. map (block_at (set bs x w)) ids) qs'.lists) k [] ≡ get_or (set (map (λ ids. map (block_at bs) ids) qs.lists) q (get_or (map (λ ids. map (block_at bs) ids) qs.lists) q [] ++ w ∷ [])) k []
+    put-at k = map-lists (map (block_at (set bs x w))) qs'.lists k refl ∙ elim (cases_eq k q) [
+      | inl e ↦ subst (λ (j : ℕ). map (block_at (set bs x w)) (list_at qs' j) ≡ get_or (set olds q (get_or olds q [] ++ w ∷ [])) j []) (sym e) (
+          ap (map (block_at (set bs x w))) pushed.list.this
+          ∙ map-append (block_at (set bs x w)) (list_at qs q) (x ∷ [])
+          ∙ ap (λ (v : Waiter). map (block_at (set bs x w)) (list_at qs q) ++ v ∷ []) (block-same bs x w in-blocks)
+          ∙ ap (λ (vs : List Waiter). vs ++ w ∷ []) (blocks-kept q ∙ sym (queue-is q))
+          ∙ sym (get_or-set_same olds q (get_or olds q [] ++ w ∷ []) [] there-q))
+      | inr ne ↦ ap (map (block_at (set bs x w))) (pushed.list.others k ne) ∙ blocks-kept k ∙ sym (queue-is k) ∙ sym (get_or-set_other olds q k (get_or olds q [] ++ w ∷ []) [] ne)
+    ]
+      where
+        olds : List (List Waiter)
+        olds = map (λ ids. map (block_at bs) ids) qs.lists
+        there-q : q < length olds
+        there-q = omega (arith, lt, laid.queue_count, length-map (λ ids. map (block_at bs) ids) qs.lists)
+
+    pub put-shown : slotted al qs' (set bs x w) ≡ put_in (slotted al qs bs) q w
+    put-shown =
+        ap (λ (ns : List ℕ). record { live = ns; queues = map (λ ids. map (block_at (set bs x w)) ids) qs'.lists }) (map-same (number_at (set bs x w)) (number_at bs) (list_at al 0) (λ y h. number-kept bs x w in-blocks number y))
+        ∙ ap (λ (ls : List (List Waiter)). record { live = map (number_at bs) (list_at al 0); queues = ls })
+        (same-at (map (λ ids. map (block_at (set bs x w)) ids) qs'.lists) (set (map (λ ids. map (block_at bs) ids) qs.lists) q (get_or (map (λ ids. map (block_at bs) ids) qs.lists) q [] ++ w ∷ []))
+        (length-map (λ ids. map (block_at (set bs x w)) ids) qs'.lists ∙ pushed.counts.lists ∙ sym (length-set (map (λ ids. map (block_at bs) ids) qs.lists) q (get_or (map (λ ids. map (block_at bs) ids) qs.lists) q [] ++ w ∷ []) ∙ length-map (λ ids. map (block_at bs) ids) qs.lists))
+        put-at)
+
+    -- the test of a bucket
+    tests-kept : (b : ℕ) → filter (λ y. bucket_of (block_at (set bs x w) y).event == b) (list_at qs 4) ≡ filter (λ y. bucket_of (block_at bs y).event == b) (list_at qs 4)
+    tests-kept b = filter-same (λ y. bucket_of (block_at (set bs x w) y).event == b) (λ y. bucket_of (block_at bs y).event == b) (list_at qs 4)
+        (λ y h. ap (λ (v : Waiter). bucket_of v.event == b) (block-other bs x y w (λ e. has-both y (list_at qs 4) h (subst (λ (z : ℕ). has z (list_at qs 4) ≡ false) (sym e) (nowhere 4)))))
+
+    put-bucketed : (b : ℕ) → b < 263 → list_at bu' b ≡ filter (λ y. bucket_of (block_at (set bs x w) y).event == b) (list_at qs' 4)
+    put-bucketed b low = elim (cases_eq q 4) [
+      | inl e ↦ waits b low (ap (λ (j : ℕ). bucket_in j w.event) e) (subst (λ (j : ℕ). list_at qs' j ≡ list_at qs j ++ x ∷ []) e pushed.list.this)
+      | inr ne ↦ bucket.list.others b (λ e. other e (ap {B = ℕ} (λ (c : Bool). cond c (bucket_of w.event) 263) (ne_eqb q 4 ne))) ∙ laid.bucketed b low ∙ sym (tests-kept b)
+          ∙ ap (filter (λ y. bucket_of (block_at (set bs x w) y).event == b)) (sym (pushed.list.others 4 (λ e. ne (sym e))))
+    ]
+      where
+        other : b ≡ bucket_in q w.event → bucket_in q w.event ≡ 263 → ⊥
+        other e f = omega (arith, e, f, low)
+        waits : (b : ℕ) → b < 263 → bucket_in q w.event ≡ bucket_of w.event → list_at qs' 4 ≡ list_at qs 4 ++ x ∷ [] → list_at bu' b ≡ filter (λ y. bucket_of (block_at (set bs x w) y).event == b) (list_at qs' 4)
+        waits b low same more = elim (cases_eq (bucket_of w.event) b) [
+          | inl e ↦ subst (λ (j : ℕ). list_at bu' j ≡ list_at bu j ++ x ∷ []) (same ∙ e) bucket.list.this
+              ∙ ap (λ (ys : List ℕ). ys ++ x ∷ []) (laid.bucketed b low ∙ sym (tests-kept b))
+              ∙ sym (ap (filter test) more ∙ filter-end test (list_at qs 4) x ∙ ap (λ (c : Bool). cond c (filter test (list_at qs 4) ++ x ∷ []) (filter test (list_at qs 4))) (at-x ∙ eq-eqb (bucket_of w.event) b e))
+          | inr ne ↦ bucket.list.others b (λ e. ne (sym same ∙ sym e)) ∙ laid.bucketed b low ∙ sym (tests-kept b)
+              ∙ sym (ap (filter test) more ∙ filter-end test (list_at qs 4) x ∙ ap (λ (c : Bool). cond c (filter test (list_at qs 4) ++ x ∷ []) (filter test (list_at qs 4))) (at-x ∙ ne_eqb (bucket_of w.event) b ne))
+        ]
+          where
+            test : ℕ → Bool
+            test y = bucket_of (block_at (set bs x w) y).event == b
+            at-x : (bucket_of (block_at (set bs x w) x).event == b) ≡ (bucket_of w.event == b)
+            at-x = ap (λ (v : Waiter). bucket_of v.event == b) (block-same bs x w in-blocks)
+
+    put-limited : (y : ℕ) → due_at (set li x (limit_of w)) y ≡ limit_in (home_at qs' y) (block_at (set bs x w) y)
+    put-limited y = elim (cases_eq y x) [
+      | inl e ↦ subst (λ (z : ℕ). due_at (set li x (limit_of w)) z ≡ limit_in (home_at qs' z) (block_at (set bs x w) z)) (sym e)
+          (get_or-set_same li x (limit_of w) None (omega (arith, there, laid.limits_room)) ∙ ap limit_of (sym (block-same bs x w in-blocks)) ∙ ap (λ (o : Option ℕ). limit_in o (block_at (set bs x w) x)) (sym pushed.home.this))
+      | inr ne ↦ get_or-set_other li x y (limit_of w) None ne ∙ laid.limited y ∙ ap (λ (o : Option ℕ). limit_in o (block_at bs y)) (sym (pushed.home.others y ne)) ∙ ap (limit_in (home_at qs' y)) (sym (block-other bs x y w ne))
+    ]
+
+    pub put-laid : IsLaid al qs' bu' (set bs x w) (set li x (limit_of w)) id_of
+    put-laid = record {
+      alive_sound = laid.alive_sound;
+      queues_sound = pushed.sound;
+      buckets_sound = bucket.sound;
+      alive_count = laid.alive_count;
+      queue_count = pushed.counts.lists ∙ laid.queue_count;
+      bucket_count = bucket.counts.lists ∙ laid.bucket_count;
+      queues_room = omega (arith, laid.queues_room, pushed.counts.ids);
+      buckets_room = omega (arith, laid.buckets_room, bucket.counts.ids);
+      blocks_room = omega (arith, laid.blocks_room, length-set bs x w);
+      limits_room = omega (arith, laid.limits_room, length-set li x (limit_of w));
+      lives = λ y p e. elim (cases_eq y x) [ inl s ↦ subst (λ (z : ℕ). home_at al z ≡ Some 0) (sym s) live | inr ne ↦ laid.lives y p (sym (pushed.home.others y ne) ∙ e) ];
+      found = λ t y. (
+        λ e. let r = (laid.found t y).0 e in (r.0, number-kept bs x w in-blocks number y ∙ r.1),
+        λ r. (laid.found t y).1 (r.0, sym (number-kept bs x w in-blocks number y) ∙ r.1),
+      );
+      unbucketed = λ y e. elim (cases_eq y x) [
+        | inl s ↦ absurd (none-some (home_at qs' y) q e (ap (home_at qs') s ∙ pushed.home.this))
+        | inr ne ↦ bucket.home.others y ne ∙ laid.unbucketed y (sym (pushed.home.others y ne) ∙ e)
+      ];
+      in_bucket = λ y p e. elim (cases_eq y x) [
+        | inl s ↦ subst (λ (o : Option ℕ). IsSome o) (sym (ap (home_at bu') s ∙ bucket.home.this)) tt
+        | inr ne ↦ subst (λ (o : Option ℕ). IsSome o) (sym (bucket.home.others y ne)) (laid.in_bucket y p (sym (pushed.home.others y ne) ∙ e))
+      ];
+      bucketed = put-bucketed;
+      limited = put-limited;
+    }

@@ -1,0 +1,38 @@
+-- Threads in queues, by number.
+use Rattle.std.specs.Prelude.{ℕ, ◌≡◌, ◌==◌, List, [], ◌∷◌, ◌++◌, map, slice_set, slice_index_or, replicate}
+use Rattle.thread_queues.specs.declared.event.Waiter.{Waiter}
+use Rattle.thread_queues.specs.Placed.{times, without_first}
+
+-- the threads that live, and six queues of threads, each thread with what is known of it there
+pub record Slotted : Type 0 where
+  pub live : List ℕ
+  pub queues : List (List Waiter)
+
+abbrev pub queue_at : Slotted → ℕ → List Waiter
+queue_at s q = slice_index_or s.queues q []
+
+abbrev pub threads_of : List Waiter → List ℕ
+threads_of ws = map (λ w. w.thread) ws
+
+-- no thread
+abbrev pub nothing : Slotted
+nothing = record { live = []; queues = replicate 6 [] }
+
+-- a thread goes to the end of a queue
+abbrev pub put_in : Slotted → ℕ → Waiter → Slotted
+put_in s q w = record { live = s.live; queues = slice_set s.queues q (queue_at s q ++ w ∷ []) }
+
+-- a thread leaves a queue
+abbrev pub taken_from : Slotted → ℕ → ℕ → Slotted
+taken_from s q t = record { live = s.live; queues = slice_set s.queues q (without_first (λ w. w.thread == t) (queue_at s q)) }
+
+-- one thread more lives, or one less
+abbrev pub with_thread : Slotted → ℕ → Slotted
+with_thread s t = record { live = s.live ++ t ∷ []; queues = s.queues }
+
+abbrev pub without_thread : Slotted → ℕ → Slotted
+without_thread s t = record { live = without_first (λ x. x == t) s.live; queues = s.queues }
+
+-- a thread stands in no queue
+abbrev pub IsApart : Slotted → ℕ → Type 0
+IsApart s t = (q : ℕ) → times t (threads_of (queue_at s q)) ≡ 0
