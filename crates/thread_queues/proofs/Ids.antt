@@ -37,14 +37,14 @@ filter-same p q (y ∷ ys) h =
 
 pub has-filter : (p : ℕ → Bool) (xs : List ℕ) (x : ℕ) → has x (filter p xs) ≡ true → (has x xs ≡ true) × (p x ≡ true)
 has-filter p [] x h = cc
-has-filter p (y ∷ ys) x h = by-test (p y) refl
+has-filter p (y ∷ ys) x h = by-test (p y) refl (has-filter p ys x)
   where
-    by-test : (b : Bool) → p y ≡ b → (has x (y ∷ ys) ≡ true) × (p x ≡ true)
-    by-test true e = elim (has-cons x y (filter p ys) (subst (λ (c : Bool). has x (cond c (y ∷ filter p ys) (filter p ys)) ≡ true) e h)) [
+    by-test : (b : Bool) → p y ≡ b → (has x (filter p ys) ≡ true → (has x ys ≡ true) × (p x ≡ true)) → (has x (y ∷ ys) ≡ true) × (p x ≡ true)
+    by-test true e rest = elim (has-cons x y (filter p ys) (subst (λ (c : Bool). has x (cond c (y ∷ filter p ys) (filter p ys)) ≡ true) e h)) [
       | inl k ↦ (subst (λ (j : ℕ). has j (y ∷ ys) ≡ true) k (has-first y ys), ap p (sym k) ∙ e)
-      | inr r ↦ let s = has-filter p ys x r in (has-later x y ys s.0, s.1)
+      | inr r ↦ let s = rest r in (has-later x y ys s.0, s.1)
     ]
-    by-test false e = let s = has-filter p ys x (subst (λ (c : Bool). has x (cond c (y ∷ filter p ys) (filter p ys)) ≡ true) e h) in (has-later x y ys s.0, s.1)
+    by-test false e rest = let s = rest (subst (λ (c : Bool). has x (cond c (y ∷ filter p ys) (filter p ys)) ≡ true) e h) in (has-later x y ys s.0, s.1)
 
 -- one more at the end
 pub filter-end : (p : ℕ → Bool) (xs : List ℕ) (x : ℕ) → filter p (xs ++ x ∷ []) ≡ cond (p x) (filter p xs ++ x ∷ []) (filter p xs)

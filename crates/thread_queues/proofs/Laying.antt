@@ -11,10 +11,10 @@ use Rattle.thread_queues.specs.declared.event.Event.{Event}
 use Rattle.thread_queues.specs.declared.event.Waiter.{Waiter}
 use Rattle.thread_queues.specs.Firsts.{due_at}
 use Rattle.thread_queues.specs.Placed.{times, without_first}
-use Rattle.thread_queues.specs.Slotted.{Slotted, queue_at, threads_of, put_in, taken_from, IsApart}
-use Rattle.thread_queues.specs.Laid.{no_waiter, block_at, number_at, bucket_of, bucket_in, limit_of, limit_in, slotted, IsLaid}
+use Rattle.thread_queues.specs.Slotted.{limit_of, Slotted, queue_at, threads_of, put_in, taken_from, IsApart}
+use Rattle.thread_queues.specs.Laid.{no_waiter, block_at, number_at, bucket_of, bucket_in, limit_in, slotted, IsLaid}
 use Rattle.thread_queues.proofs.Ids.{times-has, has-times, map-same, filter-same, has-filter, filter-end, filter-without, without-none, without-first-map, find-map}
-use Rattle.thread_queues.proofs.Moving.{not-in, lists-set, block-same, block-other, number-kept, taken-lists, map-lists}
+use Rattle.thread_queues.proofs.Moving.{not-in, lists-set, block-same, block-other, number-kept, taken-lists, map-lists, same-at}
 
 pub record IsPushed (old new : Lists) (l x : ℕ) : Type 0 where
   pub list : ListBecomes old new l (list_at old l ++ x ∷ [])
@@ -28,10 +28,6 @@ module _ (al qs bu : Lists) (bs : List Waiter) (li : List (Option Due)) (id_of :
 
   none-some : (o : Option ℕ) (l : ℕ) → o ≡ None → o ≡ Some l → ⊥
   none-some o l e f = cc
-
-  is-some : (o : Option ℕ) → IsSome o → (l : ℕ) × (o ≡ Some l)
-  is-some (Some l) h = (l, refl)
-  is-some None h = absurd h
 
   -- the queues that are seen
   queue-is : (q : ℕ) → queue_at (slotted al qs bs) q ≡ map (block_at bs) (list_at qs q)
@@ -66,6 +62,10 @@ module _ (al qs bu : Lists) (bs : List Waiter) (li : List (Option Due)) (id_of :
       let home = (laid.queues_sound.home q s.0).1 s.1 in
       (s.0, (laid.found t s.0).1 (laid.lives s.0 q home, s.2), home, s.2)
 
+  -- where the place of a thread that lives is found
+  pub live-places : (x : ℕ) → home_at al x ≡ Some 0 → (x < id_count qs) × (x < id_count bu) × (x < length bs) × (x < length li)
+  live-places x home = let t = (laid.alive_sound.there 0 x home).1 in (omega (arith, t, laid.queues_room), omega (arith, t, laid.buckets_room), omega (arith, t, laid.blocks_room), omega (arith, t, laid.limits_room))
+
   -- a thread goes into a queue
   module _ (qs' bu' : Lists) (q x : ℕ) (w : Waiter) (lt : q < 6) (live : home_at al x ≡ Some 0) (number : number_at bs x ≡ w.thread) (free : home_at qs x ≡ None)
       (pushed : IsPushed qs qs' q x) (bucket : IsPushed bu bu' (bucket_in q w.event) x) where
@@ -96,14 +96,14 @@ module _ (al qs bu : Lists) (bs : List Waiter) (li : List (Option Due)) (id_of :
         olds : List (List Waiter)
         olds = map (λ ids. map (block_at bs) ids) qs.lists
         there-q : q < length olds
-        there-q = omega (arith, lt, laid.queue_count, length-map (λ ids. map (block_at bs) ids) qs.lists)
+        there-q = omega (arith, lt, laid.queue_count, length-map qs.lists (λ ids. map (block_at bs) ids))
 
     pub put-shown : slotted al qs' (set bs x w) ≡ put_in (slotted al qs bs) q w
     put-shown =
         ap (λ (ns : List ℕ). record { live = ns; queues = map (λ ids. map (block_at (set bs x w)) ids) qs'.lists }) (map-same (number_at (set bs x w)) (number_at bs) (list_at al 0) (λ y h. number-kept bs x w in-blocks number y))
         ∙ ap (λ (ls : List (List Waiter)). record { live = map (number_at bs) (list_at al 0); queues = ls })
         (same-at (map (λ ids. map (block_at (set bs x w)) ids) qs'.lists) (set (map (λ ids. map (block_at bs) ids) qs.lists) q (get_or (map (λ ids. map (block_at bs) ids) qs.lists) q [] ++ w ∷ []))
-        (length-map (λ ids. map (block_at (set bs x w)) ids) qs'.lists ∙ pushed.counts.lists ∙ sym (length-set (map (λ ids. map (block_at bs) ids) qs.lists) q (get_or (map (λ ids. map (block_at bs) ids) qs.lists) q [] ++ w ∷ []) ∙ length-map (λ ids. map (block_at bs) ids) qs.lists))
+        (length-map qs'.lists (λ ids. map (block_at (set bs x w)) ids) ∙ pushed.counts.lists ∙ sym (length-set (map (λ ids. map (block_at bs) ids) qs.lists) q (get_or (map (λ ids. map (block_at bs) ids) qs.lists) q [] ++ w ∷ []) ∙ length-map qs.lists (λ ids. map (block_at bs) ids)))
         put-at)
 
     -- the test of a bucket
@@ -163,9 +163,46 @@ module _ (al qs bu : Lists) (bs : List Waiter) (li : List (Option Due)) (id_of :
         | inr ne ↦ bucket.home.others y ne ∙ laid.unbucketed y (sym (pushed.home.others y ne) ∙ e)
       ];
       in_bucket = λ y p e. elim (cases_eq y x) [
-        | inl s ↦ subst (λ (o : Option ℕ). IsSome o) (sym (ap (home_at bu') s ∙ bucket.home.this)) tt
+        | inl s ↦ subst (λ (o : Option ℕ). IsSome o) (sym (ap (home_at bu') s ∙ bucket.home.this)) refl
         | inr ne ↦ subst (λ (o : Option ℕ). IsSome o) (sym (bucket.home.others y ne)) (laid.in_bucket y p (sym (pushed.home.others y ne) ∙ e))
       ];
       bucketed = put-bucketed;
       limited = put-limited;
     }
+
+  -- a thread that lives and stands in no queue has a place, which no list but that of the live ones has
+  pub record IsFreeAt (t x : ℕ) : Type 0 where
+    pub live : home_at al x ≡ Some 0
+    pub number : number_at bs x ≡ t
+    pub free : home_at qs x ≡ None
+    pub unbucketed : home_at bu x ≡ None
+    pub in_queues : x < id_count qs
+    pub in_buckets : x < id_count bu
+    pub in_blocks : x < length bs
+    pub in_limits : x < length li
+
+  pub free-at : (t x : ℕ) → id_of t ≡ Some x → IsApart (slotted al qs bs) t → IsFreeAt t x
+  free-at t x e apart =
+      let f = (laid.found t x).0 e in
+      let p = live-places x f.0 in
+      let free = apart-free t x apart f.1 in
+      record { live = f.0; number = f.1; free = free; unbucketed = laid.unbucketed x free; in_queues = p.0; in_buckets = p.1; in_blocks = p.2; in_limits = p.3 }
+
+  -- a thread that stands in a queue has a place there, and in a bucket
+  pub record IsPlacedAt (q t x : ℕ) : Type 0 where
+    pub number : number_at bs x ≡ t
+    pub here : home_at qs x ≡ Some q
+    pub bucketed : IsSome (home_at bu x)
+    pub in_blocks : x < length bs
+    pub in_limits : x < length li
+
+  pub placed-at : (q t x : ℕ) → id_of t ≡ Some x → 0 < times t (threads_of (queue_at (slotted al qs bs) q)) → IsPlacedAt q t x
+  placed-at q t x e some =
+      let s = queue-found q t some in
+      let same : s.0 ≡ x = one-id s.0 x (sym s.1 ∙ e) in
+      let here : home_at qs x ≡ Some q = ap (home_at qs) (sym same) ∙ s.2 in
+      let p = live-places x (laid.lives x q here) in
+      record { number = ap (number_at bs) (sym same) ∙ s.3; here = here; bucketed = laid.in_bucket x q here; in_blocks = p.2; in_limits = p.3 }
+    where
+      one-id : (m n : ℕ) → Some m ≡ Some n → m ≡ n
+      one-id m n e = cc

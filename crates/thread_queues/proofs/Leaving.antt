@@ -61,12 +61,12 @@ module _ (al qs bu : Lists) (bs : List Waiter) (li : List (Option Due)) (id_of :
       rest : List Waiter
       rest = without_first (λ w. w.thread == number_at bs x) (get_or olds q [])
       there-q : q < length olds
-      there-q = omega (arith, low, laid.queue_count, length-map (λ ids. map (block_at bs) ids) qs.lists)
+      there-q = omega (arith, low, laid.queue_count, length-map qs.lists (λ ids. map (block_at bs) ids))
 
   pub take-shown : slotted al qs' bs ≡ taken_from (slotted al qs bs) q (number_at bs x)
   take-shown = ap (λ (ls : List (List Waiter)). record { live = map (number_at bs) (list_at al 0); queues = ls })
       (same-at (map (λ ids. map (block_at bs) ids) qs'.lists) (set (map (λ ids. map (block_at bs) ids) qs.lists) q (without_first (λ w. w.thread == number_at bs x) (get_or (map (λ ids. map (block_at bs) ids) qs.lists) q [])))
-      (length-map (λ ids. map (block_at bs) ids) qs'.lists ∙ out.counts.lists ∙ sym (length-set (map (λ ids. map (block_at bs) ids) qs.lists) q (without_first (λ w. w.thread == number_at bs x) (get_or (map (λ ids. map (block_at bs) ids) qs.lists) q [])) ∙ length-map (λ ids. map (block_at bs) ids) qs.lists))
+      (length-map qs'.lists (λ ids. map (block_at bs) ids) ∙ out.counts.lists ∙ sym (length-set (map (λ ids. map (block_at bs) ids) qs.lists) q (without_first (λ w. w.thread == number_at bs x) (get_or (map (λ ids. map (block_at bs) ids) qs.lists) q [])) ∙ length-map qs.lists (λ ids. map (block_at bs) ids)))
       take-at)
 
   take-bucketed : (c : ℕ) → c < 263 → list_at bu' c ≡ filter (λ y. bucket_of (block_at bs y).event == c) (list_at qs' 4)

@@ -1,7 +1,9 @@
 pub mod Counting
+pub mod Growing
 pub mod Ids
 pub mod Laying
 pub mod Leaving
+pub mod Living
 pub mod Moving
 pub mod Removing
 pub mod Roots

@@ -19,7 +19,7 @@ none-some o a e f = cc
 
 -- an id of no list is in none, and one of another list is not in this
 pub not-in : (v : Lists) → IsSound v → (x l : ℕ) → (home_at v x ≡ Some l → ⊥) → has x (list_at v l) ≡ false
-not-in v sound x l no = not-has x (list_at v l) (λ h. no ((sound.home l x).1 h))
+not-in v sound x l never = not-has x (list_at v l) (λ h. never ((sound.home l x).1 h))
 
 -- lists of lists of which one changes
 pub lists-set : (old new : Lists) (l : ℕ) (ids : List ℕ) → ListBecomes old new l ids → SameCounts old new → l < list_count old → new.lists ≡ set old.lists l ids

@@ -1,5 +1,5 @@
 -- What lists of ids, blocks and limits stand for.
-use Rattle.std.specs.Prelude.{ℕ, ◌+◌, ◌%◌, ◌≡◌, ◌≤◌, ◌<◌, ◌==◌, ◌↔◌, if◌then◌else◌, Option, Some, None, IsSome, List, length, map, filter, option_map, slice_index_or}
+use Rattle.std.specs.Prelude.{ℕ, ◌+◌, ◌%◌, ◌≡◌, ◌≤◌, ◌<◌, ◌==◌, ◌↔◌, if◌then◌else◌, Option, Some, None, IsSome, List, length, map, filter, slice_index_or}
 use Rattle.ids_base.specs.declared.class.Class.TheVariants.{Cpu}
 use Rattle.link_lists.specs.Lists.{Lists, list_at, home_at, list_count, id_count, IsSound}
 use Rattle.thread_queues.specs.declared.event.Due.{Due}
@@ -7,7 +7,7 @@ use Rattle.thread_queues.specs.declared.event.Event.{Event}
 use Rattle.thread_queues.specs.declared.event.Event.TheVariants.{Lock, Latch, Page, LogFlush, PhysFlush, LogSpace, Checkpoint, Critical, Cleaning}
 use Rattle.thread_queues.specs.declared.event.Waiter.{Waiter}
 use Rattle.thread_queues.specs.Firsts.{due_at}
-use Rattle.thread_queues.specs.Slotted.{Slotted}
+use Rattle.thread_queues.specs.Slotted.{Slotted, limit_of}
 
 abbrev pub no_waiter : Waiter
 no_waiter = record { event = Lock; thread = 0; class = Cpu; due = None }
@@ -35,11 +35,7 @@ bucket_of (Page p) = 135 + p % 128
 abbrev pub bucket_in : ℕ → Event → ℕ
 bucket_in q e = if q == 4 then bucket_of e else 263
 
--- when a thread is due
-abbrev pub limit_of : Waiter → Option Due
-limit_of w = option_map (λ t. record { tick = t; thread = w.thread }) w.due
-
--- the same if it stands in a queue
+-- when a thread in a queue is due
 abbrev pub limit_in : Option ℕ → Waiter → Option Due
 limit_in None w = None
 limit_in (Some q) w = limit_of w

@@ -1,6 +1,8 @@
 -- Threads in queues, by number.
-use Rattle.std.specs.Prelude.{ℕ, ◌≡◌, ◌==◌, List, [], ◌∷◌, ◌++◌, map, slice_set, slice_index_or, replicate}
+use Rattle.std.specs.Prelude.{ℕ, ◌≡◌, ◌==◌, Option, Some, List, [], ◌∷◌, ◌++◌, map, drop, slice_get, slice_set, slice_index_or, replicate, option_map}
 use Rattle.thread_queues.specs.declared.event.Waiter.{Waiter}
+use Rattle.thread_queues.specs.declared.event.Due.{Due}
+use Rattle.thread_queues.specs.Firsts.{IsBehind}
 use Rattle.thread_queues.specs.Placed.{times, without_first}
 
 -- the threads that live, and six queues of threads, each thread with what is known of it there
@@ -14,6 +16,10 @@ queue_at s q = slice_index_or s.queues q []
 abbrev pub threads_of : List Waiter → List ℕ
 threads_of ws = map (λ w. w.thread) ws
 
+-- when a thread is due
+abbrev pub limit_of : Waiter → Option Due
+limit_of w = option_map (λ t. record { tick = t; thread = w.thread }) w.due
+
 -- no thread
 abbrev pub nothing : Slotted
 nothing = record { live = []; queues = replicate 6 [] }
@@ -26,6 +32,10 @@ put_in s q w = record { live = s.live; queues = slice_set s.queues q (queue_at s
 abbrev pub taken_from : Slotted → ℕ → ℕ → Slotted
 taken_from s q t = record { live = s.live; queues = slice_set s.queues q (without_first (λ w. w.thread == t) (queue_at s q)) }
 
+-- the head leaves a queue
+abbrev pub popped_from : Slotted → ℕ → Slotted
+popped_from s q = record { live = s.live; queues = slice_set s.queues q (drop 1 (queue_at s q)) }
+
 -- one thread more lives, or one less
 abbrev pub with_thread : Slotted → ℕ → Slotted
 with_thread s t = record { live = s.live ++ t ∷ []; queues = s.queues }
@@ -36,3 +46,8 @@ without_thread s t = record { live = without_first (λ x. x == t) s.live; queues
 -- a thread stands in no queue
 abbrev pub IsApart : Slotted → ℕ → Type 0
 IsApart s t = (q : ℕ) → times t (threads_of (queue_at s q)) ≡ 0
+
+-- there is a thread in a queue with a limit, and none before it; there is none only where no thread in a queue has a limit
+pub record IsFirstOf (s : Slotted) (first : Option Due) : Type 0 where
+  pub among : (d : Due) → first ≡ Some d → (q : ℕ) × (w : Waiter) × (k : ℕ) × (slice_get (queue_at s q) k ≡ Some w) × (limit_of w ≡ Some d)
+  pub behind : (q k : ℕ) (w : Waiter) (d : Due) → slice_get (queue_at s q) k ≡ Some w → limit_of w ≡ Some d → IsBehind d first

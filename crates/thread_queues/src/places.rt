@@ -9,7 +9,7 @@ ghost use Rattle.thread_queues.specs.Placed.{times as count, queue, queue_of, wa
 ghost use Rattle.thread_queues.specs.Ticks.{due_threads, first_due, still_count, raised, ticked, is_due_before};
 
 use crate::due;
-use crate::event::{Due, Event, Sleeper, Waiter};
+use crate::event::{Due, Event, Sleeper, Waiter, same_event};
 use crate::ready::Ready;
 use ids_base::class::Class;
 use ids_base::numbers::ThreadNo;
@@ -337,24 +337,6 @@ fn first_for(waits: &[Waiter], event: Event) -> usize
         }
     }
     waits.len()
-}
-
-/// Whether two events are the same.
-fn same_event(a: Event, b: Event) -> bool
-    ensures { result ≡ is_event a b }
-{
-    match (a, b) {
-        (Event::Latch(f), Event::Latch(g)) => f == g,
-        (Event::Page(p), Event::Page(q)) => p == q,
-        (Event::Lock, Event::Lock)
-        | (Event::LogFlush, Event::LogFlush)
-        | (Event::PhysFlush, Event::PhysFlush)
-        | (Event::LogSpace, Event::LogSpace)
-        | (Event::Checkpoint, Event::Checkpoint)
-        | (Event::Critical, Event::Critical)
-        | (Event::Cleaning, Event::Cleaning) => true,
-        _ => false,
-    }
 }
 
 /// Where a thread waits, and how many threads wait where it does not.

@@ -2,12 +2,14 @@
 //!
 //! Each live thread has a block, found by the thread's number; queues are lists of the blocks' places. The threads that wait stand also in
 //! buckets by their events, each bucket in the order of waiting, so that the first one for an event is found with few looks.
-ghost use Rattle.std.specs.Prelude.{◌≡◌, ◌==◌, ◌<◌, ◌≤◌, ◌+◌, ℕ, None, Some, IfOk, OnOk, OnErr, find};
+ghost use Rattle.std.specs.Prelude.{◌≡◌, ◌==◌, ◌<◌, ◌≤◌, ◌+◌, ◌↔◌, ℕ, true, None, Some, IfOk, OnOk, OnErr, IsTrue, find, map, length, slice_get, option_map};
+ghost use Rattle.link_lists.specs.Lists.{list_at, list_count, has};
+ghost use Rattle.thread_queues.specs.Events.{is_event};
 ghost use Rattle.thread_queues.specs.Placed.{times};
-ghost use Rattle.thread_queues.specs.Slotted.{queue_at, threads_of, nothing, put_in, taken_from, with_thread, without_thread, IsApart};
-ghost use Rattle.thread_queues.specs.Laid.{bucket_of, bucket_in, limit_of};
+ghost use Rattle.thread_queues.specs.Slotted.{queue_at, threads_of, nothing, put_in, taken_from, popped_from, with_thread, without_thread, limit_of, IsApart, IsFirstOf};
+ghost use Rattle.thread_queues.specs.Laid.{block_at, bucket_of, bucket_in};
 
-use crate::event::{Due, Event, Waiter};
+use crate::event::{Due, Event, Waiter, same_event};
 use crate::limits::Limits;
 use ids_base::class::Class;
 use ids_base::numbers::ThreadNo;
@@ -160,6 +162,101 @@ impl Slots {
         self.limits.set(id as usize, None);
         self.blocks[id as usize]
     }
+
+    /// The first thread of a queue leaves it, if there is one.
+    pub fn pop(&mut self, queue: u32) -> Option<ThreadNo>
+        requires { queue < 6 }
+        ensures head { result ≡ slice_get (threads_of (queue_at self.old queue)) 0 }
+        ensures rest { self.new ≡ popped_from self.old queue }
+    {
+        let first = self.queues.front(queue)?;
+        let thread = self.blocks[first as usize].thread;
+        self.take(queue, thread);
+        Some(thread)
+    }
+
+    /// The thread that waits longest for an event.
+    pub fn first_for(&self, event: Event) -> Option<ThreadNo>
+        ensures { result
+            ≡ option_map (λ w. w.thread) (find (λ w. is_event w.event event) (queue_at self.now 4)) }
+    {
+        first_of_bucket(&self.buckets, bucket_of(event), &self.blocks, event)
+    }
+
+    /// Whether a thread stands in a queue.
+    pub fn stands(&self, queue: u32, thread: ThreadNo) -> bool
+        ensures { IsTrue result ↔ (0 < times thread (threads_of (queue_at self.now queue))) }
+    {
+        match self.numbers.get(&thread) {
+            Some(id) => self.queues.home(*id) == Some(queue),
+            None => false,
+        }
+    }
+
+    /// Whether a thread lives.
+    pub fn lives(&self, thread: ThreadNo) -> bool
+        ensures { IsTrue result ↔ (0 < times thread self.now.live) }
+    {
+        self.numbers.get(&thread).is_some()
+    }
+
+    /// A queue, from its head on.
+    pub fn list(&self, alloc: Global, queue: u32) -> Result<Vec<Waiter>, AllocError>
+        requires { queue < 6 }
+        ensures { IfOk result (λ v. v.items ≡ queue_at self.now queue) }
+    {
+        listed(alloc, &self.queues, queue, &self.blocks)
+    }
+
+    /// The first of all limits of threads in queues.
+    pub fn first_limit(&self) -> Option<Due>
+        ensures { IsFirstOf self.now result }
+    {
+        self.limits.first()
+    }
+}
+
+/// The blocks of a list of ids, from its front on.
+fn listed(
+    alloc: Global,
+    lists: &Lists,
+    list: u32,
+    blocks: &[Waiter],
+) -> Result<Vec<Waiter>, AllocError>
+    requires there { list < list_count lists.now }
+    requires blocks { (x : ℕ) → has x (list_at lists.now list) ≡ true → x < length blocks.now }
+    ensures { IfOk result (λ v. v.items ≡ map (block_at blocks.now) (list_at lists.now list)) }
+{
+    let mut out = Vec::new(alloc);
+    let mut at = lists.front(list);
+    while let Some(id) = at {
+        out.push(blocks[id as usize])?;
+        at = lists.next(id);
+    }
+    Ok(out)
+}
+
+/// The thread of the first block for an event in a list of ids.
+fn first_of_bucket(
+    lists: &Lists,
+    list: u32,
+    blocks: &[Waiter],
+    event: Event,
+) -> Option<ThreadNo>
+    requires there { list < list_count lists.now }
+    requires blocks { (x : ℕ) → has x (list_at lists.now list) ≡ true → x < length blocks.now }
+    ensures { result
+        ≡ option_map (λ w. w.thread) (find (λ w. is_event w.event event) (map (block_at blocks.now) (list_at lists.now list))) }
+{
+    let mut at = lists.front(list);
+    while let Some(id) = at {
+        let waiter = blocks[id as usize];
+        if same_event(waiter.event, event) {
+            return Some(waiter.thread);
+        }
+        at = lists.next(id);
+    }
+    None
 }
 
 /// The bucket of a thread in a queue.
