@@ -8,8 +8,8 @@ use Rattle.link_lists.proofs.Members.{has-first}
 use Rattle.thread_queues.specs.declared.event.Due.{Due}
 use Rattle.thread_queues.specs.declared.event.Waiter.{Waiter}
 use Rattle.thread_queues.specs.Firsts.{due_at}
-use Rattle.thread_queues.specs.Slotted.{Slotted, nothing}
-use Rattle.thread_queues.specs.Laid.{no_waiter, block_at, number_at, bucket_of, limit_in, slotted, IsLaid}
+use Rattle.thread_queues.specs.Slotted.{limit_in, Slotted, nothing}
+use Rattle.thread_queues.specs.Laid.{no_waiter, block_at, number_at, bucket_of, slotted, IsLaid}
 use Rattle.thread_queues.proofs.Moving.{same-at}
 use Rattle.thread_queues.proofs.Laying.{IsPushed}
 
@@ -102,6 +102,7 @@ laid-none al qs bu id_of sa sq sb ca cq cb na nq nb eq eb none = record {
   where
     none-some : {o : Option ℕ} {l : ℕ} → o ≡ None → o ≡ Some l → ⊥
     none-some e f = cc
+
     homeless : (v : Lists) → id_count v ≡ 0 → (x : ℕ) → home_at v x ≡ None
     homeless v n x = get_or_past v.homes x None (omega (arith, n))
 
@@ -129,11 +130,13 @@ live-free v w u id more is pushed = record {
   where
     none-some : {o : Option ℕ} {l : ℕ} → o ≡ None → o ≡ Some l → ⊥
     none-some e f = cc
+
     zero-one : {o : Option ℕ} → o ≡ Some 0 → o ≡ Some 1 → ⊥
     zero-one e f = absurd (apart (some-same (sym e ∙ f)))
       where
         some-same : {m n : ℕ} → Some m ≡ Some n → m ≡ n
         some-same e = cc
+
         apart : ◌≡◌ {A = ℕ} 0 1 → ⊥
         apart h = omega (arith, h)
 

@@ -1,6 +1,6 @@
 -- Lists of ids, and what is kept for each.
 use Rattle.std.proofs.Common.{◌≡◌, ◌≢◌, ◌∙◌, ℕ, zero, suc, ◌+◌, ◌<◌, ◌≤◌, ◌==◌, Bool, true, false, cond, not, ◌||◌, List, [], ◌∷◌, ◌++◌, length, map, get_or, refl, ap, sym, subst, arith, ◌⊎◌, inl, inr, Option, Some, None}
-use Rattle.std.specs.List.{filter, find}
+use Rattle.std.specs.List.{filter, find, slice_get}
 use Rattle.std.proofs.lemmas.Bool.{cases_eq, cases_Bool}
 use Rattle.std.proofs.lemmas.Bool.Decides.{eqb_tells, nat_tests}
 use Rattle.link_lists.specs.Lists.{has, Once, without}
@@ -67,6 +67,7 @@ filter-without p x (y ∷ ys) = push (y == x) (p y) refl ∙ ap (λ (vs : List �
     push true false e = refl
     push false true e = ap (λ (d : Bool). cond d (y ∷ filter p (without x ys)) (filter p (without x ys))) (sym e)
     push false false e = ap (λ (d : Bool). cond d (y ∷ filter p (without x ys)) (filter p (without x ys))) (sym e)
+
     pull : (c : Bool) → cond c (cond (not (y == x)) (y ∷ without x (filter p ys)) (without x (filter p ys))) (without x (filter p ys)) ≡ without x (cond c (y ∷ filter p ys) (filter p ys))
     pull true = refl
     pull false = refl
@@ -107,3 +108,23 @@ find-map {X} f p x (y ∷ ys) h is others = elim (eqb_tells y x) as (λ v. find 
     rest : (y ≡ x) ⊎ (has x ys ≡ true) → (y ≡ x → ⊥) → has x ys ≡ true
     rest (inl e) n = absurd (n e)
     rest (inr r) n = r
+
+-- what is among a list has a place in it
+pub get-has : {X : Type 0} (f : ℕ → X) (xs : List ℕ) (x : ℕ) → has x xs ≡ true → (k : ℕ) × (slice_get (map f xs) k ≡ Some (f x))
+get-has f [] x h = cc
+get-has {X} f (y ∷ ys) x h = elim (eqb_tells y x) [
+  | inl t ↦ (0, ap (λ (k : ℕ). Some (f k)) t.1)
+  | inr ne ↦ let r = get-has f ys x (later (has-cons x y ys h) ne.1) in (suc r.0, r.1)
+]
+  where
+    later : (y ≡ x) ⊎ (has x ys ≡ true) → (y ≡ x → ⊥) → has x ys ≡ true
+    later (inl e) n = absurd (n e)
+    later (inr r) n = r
+
+pub has-get : {X : Type 0} (f : ℕ → X) (xs : List ℕ) (k : ℕ) (w : X) → slice_get (map f xs) k ≡ Some w → (x : ℕ) × (has x xs ≡ true) × (f x ≡ w)
+has-get f [] k w e = cc
+has-get f (y ∷ ys) zero w e = (y, has-first y ys, some-same e)
+  where
+    some-same : {X : Type 0} {a b : X} → Some a ≡ Some b → a ≡ b
+    some-same e = cc
+has-get f (y ∷ ys) (suc k) w e = let r = has-get f ys k w e in (r.0, has-later r.0 y ys r.1, r.2)

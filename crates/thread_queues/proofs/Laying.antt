@@ -1,7 +1,7 @@
 -- The lists, blocks and limits stand for the threads, as a thread goes into a queue and out of it.
 use Rattle.std.proofs.Common.{◌≡◌, ◌≢◌, ◌∙◌, ℕ, zero, suc, ◌+◌, ◌<◌, ◌≤◌, ◌==◌, Bool, true, false, cond, List, [], ◌∷◌, ◌++◌, length, map, get_or, refl, ap, sym, subst, arith, ◌⊎◌, inl, inr, Option, Some, None, IsSome}
 use Rattle.std.proofs.Math.ListN.{set}
-use Rattle.std.specs.List.{filter, find}
+use Rattle.std.specs.List.{filter, find, slice_get}
 use Rattle.std.proofs.lemmas.List.{get_or-set_same, get_or-set_other, length-set, length-map, map-append, map-set, same_lists}
 use Rattle.std.proofs.lemmas.Bool.{cases_eq, cases_lt, eq-eqb, ne_eqb}
 use Rattle.link_lists.specs.Lists.{Lists, list_at, home_at, list_count, id_count, ListBecomes, HomeBecomes, SameCounts, IsSound, has, Once, without}
@@ -9,11 +9,11 @@ use Rattle.link_lists.proofs.Members.{has-both, not-has}
 use Rattle.thread_queues.specs.declared.event.Due.{Due}
 use Rattle.thread_queues.specs.declared.event.Event.{Event}
 use Rattle.thread_queues.specs.declared.event.Waiter.{Waiter}
-use Rattle.thread_queues.specs.Firsts.{due_at}
+use Rattle.thread_queues.specs.Firsts.{due_at, IsFirst}
 use Rattle.thread_queues.specs.Placed.{times, without_first}
-use Rattle.thread_queues.specs.Slotted.{limit_of, Slotted, queue_at, threads_of, put_in, taken_from, IsApart}
-use Rattle.thread_queues.specs.Laid.{no_waiter, block_at, number_at, bucket_of, bucket_in, limit_in, slotted, IsLaid}
-use Rattle.thread_queues.proofs.Ids.{times-has, has-times, map-same, filter-same, has-filter, filter-end, filter-without, without-none, without-first-map, find-map}
+use Rattle.thread_queues.specs.Slotted.{limit_in, Slotted, queue_at, threads_of, put_in, taken_from, IsApart, IsFirstOf}
+use Rattle.thread_queues.specs.Laid.{no_waiter, block_at, number_at, bucket_of, bucket_in, slotted, IsLaid}
+use Rattle.thread_queues.proofs.Ids.{times-has, has-times, map-same, filter-same, has-filter, filter-end, filter-without, without-none, without-first-map, find-map, get-has, has-get}
 use Rattle.thread_queues.proofs.Moving.{not-in, lists-set, block-same, block-other, number-kept, taken-lists, map-lists, same-at}
 
 pub record IsPushed (old new : Lists) (l x : ℕ) : Type 0 where
@@ -95,6 +95,7 @@ module _ (al qs bu : Lists) (bs : List Waiter) (li : List (Option Due)) (id_of :
       where
         olds : List (List Waiter)
         olds = map (λ ids. map (block_at bs) ids) qs.lists
+
         there-q : q < length olds
         there-q = omega (arith, lt, laid.queue_count, length-map qs.lists (λ ids. map (block_at bs) ids))
 
@@ -120,6 +121,7 @@ module _ (al qs bu : Lists) (bs : List Waiter) (li : List (Option Due)) (id_of :
       where
         other : b ≡ bucket_in q w.event → bucket_in q w.event ≡ 263 → ⊥
         other e f = omega (arith, e, f, low)
+
         waits : (b : ℕ) → b < 263 → bucket_in q w.event ≡ bucket_of w.event → list_at qs' 4 ≡ list_at qs 4 ++ x ∷ [] → list_at bu' b ≡ filter (λ y. bucket_of (block_at (set bs x w) y).event == b) (list_at qs' 4)
         waits b low same more = elim (cases_eq (bucket_of w.event) b) [
           | inl e ↦ subst (λ (j : ℕ). list_at bu' j ≡ list_at bu j ++ x ∷ []) (same ∙ e) bucket.list.this
@@ -131,17 +133,18 @@ module _ (al qs bu : Lists) (bs : List Waiter) (li : List (Option Due)) (id_of :
           where
             test : ℕ → Bool
             test y = bucket_of (block_at (set bs x w) y).event == b
+
             at-x : (bucket_of (block_at (set bs x w) x).event == b) ≡ (bucket_of w.event == b)
             at-x = ap (λ (v : Waiter). bucket_of v.event == b) (block-same bs x w in-blocks)
 
-    put-limited : (y : ℕ) → due_at (set li x (limit_of w)) y ≡ limit_in (home_at qs' y) (block_at (set bs x w) y)
+    put-limited : (y : ℕ) → due_at (set li x (limit_in (Some q) w)) y ≡ limit_in (home_at qs' y) (block_at (set bs x w) y)
     put-limited y = elim (cases_eq y x) [
-      | inl e ↦ subst (λ (z : ℕ). due_at (set li x (limit_of w)) z ≡ limit_in (home_at qs' z) (block_at (set bs x w) z)) (sym e)
-          (get_or-set_same li x (limit_of w) None (omega (arith, there, laid.limits_room)) ∙ ap limit_of (sym (block-same bs x w in-blocks)) ∙ ap (λ (o : Option ℕ). limit_in o (block_at (set bs x w) x)) (sym pushed.home.this))
-      | inr ne ↦ get_or-set_other li x y (limit_of w) None ne ∙ laid.limited y ∙ ap (λ (o : Option ℕ). limit_in o (block_at bs y)) (sym (pushed.home.others y ne)) ∙ ap (limit_in (home_at qs' y)) (sym (block-other bs x y w ne))
+      | inl e ↦ subst (λ (z : ℕ). due_at (set li x (limit_in (Some q) w)) z ≡ limit_in (home_at qs' z) (block_at (set bs x w) z)) (sym e)
+          (get_or-set_same li x (limit_in (Some q) w) None (omega (arith, there, laid.limits_room)) ∙ ap (limit_in (Some q)) (sym (block-same bs x w in-blocks)) ∙ ap (λ (o : Option ℕ). limit_in o (block_at (set bs x w) x)) (sym pushed.home.this))
+      | inr ne ↦ get_or-set_other li x y (limit_in (Some q) w) None ne ∙ laid.limited y ∙ ap (λ (o : Option ℕ). limit_in o (block_at bs y)) (sym (pushed.home.others y ne)) ∙ ap (limit_in (home_at qs' y)) (sym (block-other bs x y w ne))
     ]
 
-    pub put-laid : IsLaid al qs' bu' (set bs x w) (set li x (limit_of w)) id_of
+    pub put-laid : IsLaid al qs' bu' (set bs x w) (set li x (limit_in (Some q) w)) id_of
     put-laid = record {
       alive_sound = laid.alive_sound;
       queues_sound = pushed.sound;
@@ -152,7 +155,7 @@ module _ (al qs bu : Lists) (bs : List Waiter) (li : List (Option Due)) (id_of :
       queues_room = omega (arith, laid.queues_room, pushed.counts.ids);
       buckets_room = omega (arith, laid.buckets_room, bucket.counts.ids);
       blocks_room = omega (arith, laid.blocks_room, length-set bs x w);
-      limits_room = omega (arith, laid.limits_room, length-set li x (limit_of w));
+      limits_room = omega (arith, laid.limits_room, length-set li x (limit_in (Some q) w));
       lives = λ y p e. elim (cases_eq y x) [ inl s ↦ subst (λ (z : ℕ). home_at al z ≡ Some 0) (sym s) live | inr ne ↦ laid.lives y p (sym (pushed.home.others y ne) ∙ e) ];
       found = λ t y. (
         λ e. let r = (laid.found t y).0 e in (r.0, number-kept bs x w in-blocks number y ∙ r.1),
@@ -206,3 +209,32 @@ module _ (al qs bu : Lists) (bs : List Waiter) (li : List (Option Due)) (id_of :
     where
       one-id : (m n : ℕ) → Some m ≡ Some n → m ≡ n
       one-id m n e = cc
+
+  -- a thread lives exactly where it is found, and stands in a queue exactly where its place does
+  pub live-told : (t x : ℕ) → id_of t ≡ Some x → 0 < times t (slotted al qs bs).live
+  live-told t x e = let f = (laid.found t x).0 e in subst (λ (n : ℕ). 0 < times n (map (number_at bs) (list_at al 0))) f.1 (times-has (number_at bs) (list_at al 0) x ((laid.alive_sound.home 0 x).0 f.0))
+
+  pub queue-told : (q t x : ℕ) → id_of t ≡ Some x → home_at qs x ≡ Some q → 0 < times t (threads_of (queue_at (slotted al qs bs) q))
+  queue-told q t x e home = let f = (laid.found t x).0 e in
+      subst (λ (ns : List ℕ). 0 < times t ns) (sym (queue-numbers q)) (subst (λ (n : ℕ). 0 < times n (map (number_at bs) (list_at qs q))) f.1 (times-has (number_at bs) (list_at qs q) x ((laid.queues_sound.home q x).0 home)))
+
+  pub queue-home : (q t x : ℕ) → id_of t ≡ Some x → 0 < times t (threads_of (queue_at (slotted al qs bs) q)) → home_at qs x ≡ Some q
+  queue-home q t x e some = (placed-at q t x e some).here
+
+  -- the first limit of all places is that of the first due thread in a queue
+  pub first-shown : (first : Option Due) → IsFirst li first → IsFirstOf (slotted al qs bs) first
+  first-shown first i = record {
+    among = λ d e. let s = i.among d e in by-home s.0 d s.1 (home_at qs s.0) refl;
+    behind = λ q k w d get is.
+        let g = has-get (block_at bs) (list_at qs q) k w (ap (λ (ws : List Waiter). slice_get ws k) (sym (queue-is q)) ∙ get) in
+        i.behind g.0 d (laid.limited g.0 ∙ ap (λ (o : Option ℕ). limit_in o (block_at bs g.0)) ((laid.queues_sound.home q g.0).1 g.1) ∙ ap (limit_in (Some q)) g.2 ∙ is);
+  }
+    where
+      by-home : (x : ℕ) (d : Due) → due_at li x ≡ Some d → (o : Option ℕ) → home_at qs x ≡ o → (q : ℕ) × (k : ℕ) × (w : Waiter) × (slice_get (queue_at (slotted al qs bs) q) k ≡ Some w) × (limit_in (Some q) w ≡ Some d)
+      by-home x d is None e = clash (sym (laid.limited x ∙ ap (λ (o : Option ℕ). limit_in o (block_at bs x)) e) ∙ is)
+        where
+          clash : {A : Type 0} → None ≡ Some d → A
+          clash k = cc
+      by-home x d is (Some q) e =
+          let g = get-has (block_at bs) (list_at qs q) x ((laid.queues_sound.home q x).0 e) in
+          (q, g.0, block_at bs x, ap (λ (ws : List Waiter). slice_get ws g.0) (queue-is q) ∙ g.1, sym (laid.limited x ∙ ap (λ (o : Option ℕ). limit_in o (block_at bs x)) e) ∙ is)

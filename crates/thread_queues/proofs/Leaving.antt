@@ -9,8 +9,8 @@ use Rattle.thread_queues.specs.declared.event.Due.{Due}
 use Rattle.thread_queues.specs.declared.event.Waiter.{Waiter}
 use Rattle.thread_queues.specs.Firsts.{due_at}
 use Rattle.thread_queues.specs.Placed.{times, without_first}
-use Rattle.thread_queues.specs.Slotted.{Slotted, queue_at, threads_of, taken_from}
-use Rattle.thread_queues.specs.Laid.{no_waiter, block_at, number_at, bucket_of, limit_in, slotted, IsLaid}
+use Rattle.thread_queues.specs.Slotted.{limit_in, Slotted, queue_at, threads_of, taken_from}
+use Rattle.thread_queues.specs.Laid.{no_waiter, block_at, number_at, bucket_of, slotted, IsLaid}
 use Rattle.thread_queues.proofs.Ids.{filter-without, without-first-map, find-map}
 use Rattle.thread_queues.proofs.Moving.{taken-lists, map-lists, same-at}
 
@@ -58,8 +58,10 @@ module _ (al qs bu : Lists) (bs : List Waiter) (li : List (Option Due)) (id_of :
     where
       olds : List (List Waiter)
       olds = map (λ ids. map (block_at bs) ids) qs.lists
+
       rest : List Waiter
       rest = without_first (λ w. w.thread == number_at bs x) (get_or olds q [])
+
       there-q : q < length olds
       there-q = omega (arith, low, laid.queue_count, length-map qs.lists (λ ids. map (block_at bs) ids))
 

@@ -1,3 +1,4 @@
+pub mod Buckets
 pub mod Counting
 pub mod Growing
 pub mod Ids
@@ -10,3 +11,4 @@ pub mod Roots
 pub mod Telling
 pub mod Ticking
 pub mod Trees
+pub mod Walking

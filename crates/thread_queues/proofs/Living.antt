@@ -10,8 +10,8 @@ use Rattle.thread_queues.specs.declared.event.Due.{Due}
 use Rattle.thread_queues.specs.declared.event.Waiter.{Waiter}
 use Rattle.thread_queues.specs.Firsts.{due_at}
 use Rattle.thread_queues.specs.Placed.{times, without_first}
-use Rattle.thread_queues.specs.Slotted.{Slotted, with_thread, without_thread}
-use Rattle.thread_queues.specs.Laid.{block_at, number_at, bucket_of, limit_in, slotted, IsLaid}
+use Rattle.thread_queues.specs.Slotted.{limit_in, Slotted, with_thread, without_thread}
+use Rattle.thread_queues.specs.Laid.{block_at, number_at, bucket_of, slotted, IsLaid}
 use Rattle.thread_queues.proofs.Ids.{map-same, filter-same, without-first-map, times-has}
 use Rattle.thread_queues.proofs.Moving.{not-in, block-same, block-other, same-at, map-lists}
 use Rattle.thread_queues.proofs.Laying.{IsPushed}
@@ -26,6 +26,7 @@ module _ (al qs bu : Lists) (bs : List Waiter) (li : List (Option Due)) (id_of :
     where
       some-one : {m n : ℕ} → Some m ≡ Some n → m ≡ n
       some-one e = cc
+
       apart : ◌≡◌ {A = ℕ} 0 1 → ⊥
       apart h = omega (arith, h)
 
@@ -86,8 +87,10 @@ module _ (al qs bu : Lists) (bs : List Waiter) (li : List (Option Due)) (id_of :
       where
         some-same : {m n : ℕ} → Some m ≡ Some n → m ≡ n
         some-same e = cc
+
         at-x : number_at (set bs x w) x ≡ t
         at-x = ap (λ (b : Waiter). b.thread) (block-same bs x w in-blocks) ∙ is
+
         not-new : (y : ℕ) → home_at al y ≡ Some 0 → number_at bs y ≡ t → ⊥
         not-new y home number = let some : 0 < times (number_at bs y) (map (number_at bs) (list_at al 0)) = times-has (number_at bs) (list_at al 0) y ((laid.alive_sound.home 0 y).0 home) in
             omega (arith, some, ap (λ (n : ℕ). times n (map (number_at bs) (list_at al 0))) number, new)
@@ -183,5 +186,6 @@ module _ (al qs bu : Lists) (bs : List Waiter) (li : List (Option Due)) (id_of :
       where
         some-same : {m n : ℕ} → Some m ≡ Some n → m ≡ n
         some-same e = cc
+
         counts : SameCounts al al2
         counts = moved-counts 0 1 (λ s. omega (arith, s)) out pushed

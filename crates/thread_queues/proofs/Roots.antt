@@ -45,6 +45,7 @@ climb ns tree d (suc m) k le lt h = elim (cases_eq k 0) [
   where
     odd : (k : ℕ) → (k ≡ 0 → ⊥) → (k ≡ 2 * ((k - 1) / 2) + 1) ⊎ (k ≡ 2 * ((k - 1) / 2) + 2)
     odd k ne = elim (cases_eq k (2 * ((k - 1) / 2) + 1)) [ inl e ↦ inl e | inr other ↦ inr (omega (arith, ne, other)) ]
+
     side : (p : ℕ) → (k ≡ 2 * p + 1) ⊎ (k ≡ 2 * p + 2) → IsBehind d (first_below ns p)
     side p (inl e) = behind-left d (least (own_at ns p) (first_at ns (2 * p + 1))) (first_at ns (2 * p + 2)) (behind-right d (own_at ns p) (first_at ns (2 * p + 1)) (subst (λ (j : ℕ). IsBehind d (first_at ns j)) e h))
     side p (inr e) = behind-right d (least (own_at ns p) (first_at ns (2 * p + 1))) (first_at ns (2 * p + 2)) (subst (λ (j : ℕ). IsBehind d (first_at ns j)) e h)
@@ -85,6 +86,7 @@ root-first ns tree = record {
   where
     none-some : {x : Option Due} {d : Due} → x ≡ None → x ≡ Some d → ⊥
     none-some n s = cc
+
     own-behind : (k : ℕ) (d : Due) → own_at ns k ≡ Some d → IsBehind d (first_below ns k)
     own-behind k d e = behind-left d (least (own_at ns k) (first_at ns (2 * k + 1))) (first_at ns (2 * k + 2)) (behind-left d (own_at ns k) (first_at ns (2 * k + 1)) (subst (λ (x : Option Due). IsBehind d x) (sym e) (not-self d)))
       where

@@ -44,6 +44,7 @@ stands-by-place n xs place len e f = (
   where
     below : (a b p l : ℕ) → a ≡ p → b ≡ l → IsTrue (nat_lt a b) → p < l
     below a b p l e f h = grind (arith, nat_tests)
+
     above : (a b : ℕ) → a < b → IsTrue (nat_lt a b)
     above a b h = grind (arith, nat_tests)
 

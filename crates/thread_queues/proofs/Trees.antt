@@ -54,6 +54,7 @@ settle-up ns at k is h but j lt other = elim (cases_eq j k) [
   where
     n : Node
     n = record { own = own_at ns k; first = first_below ns k }
+
     ms : List Node
     ms = set ns k n
 
@@ -75,5 +76,6 @@ tree-more ns tree k lt = firsts k ∙ elim (cases_lt k (length ns)) [
   where
     firsts : (i : ℕ) → first_at (ns ++ no_node ∷ []) i ≡ first_at ns i
     firsts i = ap (λ (n : Node). n.first) (more-at ns i)
+
     none : (i : ℕ) → length ns ≤ i → first_at ns i ≡ None
     none i h = ap (λ (n : Node). n.first) (get_or_past ns i no_node h)

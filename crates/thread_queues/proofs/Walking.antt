@@ -58,3 +58,33 @@ from-has x (y ∷ ys) e = elim (eqb_tells y x) as (λ v. has x (y ∷ ys) ≡ tr
   | inl t ↦ subst (λ (k : ℕ). has k (y ∷ ys) ≡ true) t.1 (has-first y ys)
   | inr f ↦ has-later x y ys (from-has x ys (e ∙ ap first_of (ap (λ (b : Bool). cond b (y ∷ ys) (from (Some x) ys)) f.0)))
 ]
+
+-- one step of a walk, at an id
+pub record IsWalked (o : Option ℕ) (id : ℕ) (xs : List ℕ) : Type 0 where
+  pub has : has id xs ≡ true
+  pub rest : List ℕ
+  pub here : from o xs ≡ id ∷ rest
+  pub next : from (behind id xs) xs ≡ rest
+  pub at : behind id xs ≡ first_of (from (behind id xs) xs)
+
+pub walked : (xs : List ℕ) (o : Option ℕ) (id : ℕ) → Once xs → o ≡ Some id → o ≡ first_of (from o xs) → IsWalked o id xs
+walked xs o id once is at =
+    let member = from-has id xs (sym is ∙ at ∙ ap (λ (p : Option ℕ). first_of (from p xs)) is) in
+    let s = step id xs once member in
+    record { has = member; rest = s.rest; here = ap (λ (p : Option ℕ). from p xs) is ∙ s.here; next = s.next; at = s.at ∙ ap first_of (sym s.next) }
+
+-- where a walk begins
+pub begun : (xs : List ℕ) (o : Option ℕ) → o ≡ first_of xs → from o xs ≡ xs
+begun xs o e = ap (λ (p : Option ℕ). from p xs) e ∙ front-from xs
+
+pub walk-map : {X : Type 0} (f : ℕ → X) (xs : List ℕ) (o : Option ℕ) (id : ℕ) → IsWalked o id xs → map f (from o xs) ≡ f id ∷ map f (from (behind id xs) xs)
+walk-map {X} f xs o id w = ap (map f) w.here ∙ ap (λ (ys : List ℕ). f id ∷ map f ys) (sym w.next)
+
+pub walk-found : {X : Type 0} (f : ℕ → X) (p : X → Bool) (xs : List ℕ) (o : Option ℕ) (id : ℕ) → IsWalked o id xs → p (f id) ≡ true → find p (map f (from o xs)) ≡ Some (f id)
+walk-found {X} f p xs o id w h = ap (find p) (walk-map f xs o id w) ∙ ap (λ (b : Bool). cond b (Some (f id)) (find p (map f (from (behind id xs) xs)))) h
+
+pub walk-passed : {X : Type 0} (f : ℕ → X) (p : X → Bool) (xs : List ℕ) (o : Option ℕ) (id : ℕ) → IsWalked o id xs → p (f id) ≡ false → find p (map f (from (behind id xs) xs)) ≡ find p (map f (from o xs))
+walk-passed {X} f p xs o id w h = sym (ap (find p) (walk-map f xs o id w) ∙ ap (λ (b : Bool). cond b (Some (f id)) (find p (map f (from (behind id xs) xs)))) h)
+
+pub walk-shorter : (xs : List ℕ) (o : Option ℕ) (id : ℕ) → IsWalked o id xs → length (from (behind id xs) xs) < length (from o xs)
+walk-shorter xs o id w = let a = ap length w.here in let b = ap length w.next in omega (arith, a, b)

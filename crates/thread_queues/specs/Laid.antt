@@ -7,7 +7,7 @@ use Rattle.thread_queues.specs.declared.event.Event.{Event}
 use Rattle.thread_queues.specs.declared.event.Event.TheVariants.{Lock, Latch, Page, LogFlush, PhysFlush, LogSpace, Checkpoint, Critical, Cleaning}
 use Rattle.thread_queues.specs.declared.event.Waiter.{Waiter}
 use Rattle.thread_queues.specs.Firsts.{due_at}
-use Rattle.thread_queues.specs.Slotted.{Slotted, limit_of}
+use Rattle.thread_queues.specs.Slotted.{Slotted, limit_in}
 
 abbrev pub no_waiter : Waiter
 no_waiter = record { event = Lock; thread = 0; class = Cpu; due = None }
@@ -34,11 +34,6 @@ bucket_of (Page p) = 135 + p % 128
 -- the bucket of a thread in a queue: that of its event, or the last one where it does not wait
 abbrev pub bucket_in : ℕ → Event → ℕ
 bucket_in q e = if q == 4 then bucket_of e else 263
-
--- when a thread in a queue is due
-abbrev pub limit_in : Option ℕ → Waiter → Option Due
-limit_in None w = None
-limit_in (Some q) w = limit_of w
 
 -- the first list of the first lists has the ids of live threads; queue 4 has those that wait
 abbrev pub slotted : Lists → Lists → List Waiter → Slotted

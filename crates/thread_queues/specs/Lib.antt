@@ -4,7 +4,6 @@ pub mod Kept
 pub mod Laid
 pub mod Placed
 pub mod Roomy
-pub mod Shown
 pub mod Slotted
 pub mod Ticks
 pub mod Tree

@@ -1,5 +1,5 @@
 -- Threads in queues, by number.
-use Rattle.std.specs.Prelude.{ℕ, ◌≡◌, ◌==◌, Option, Some, List, [], ◌∷◌, ◌++◌, map, drop, slice_get, slice_set, slice_index_or, replicate, option_map}
+use Rattle.std.specs.Prelude.{ℕ, ◌≡◌, ◌==◌, nat_lt, if◌then◌else◌, Option, Some, None, List, [], ◌∷◌, ◌++◌, map, drop, slice_get, slice_set, slice_index_or, replicate, option_map}
 use Rattle.thread_queues.specs.declared.event.Waiter.{Waiter}
 use Rattle.thread_queues.specs.declared.event.Due.{Due}
 use Rattle.thread_queues.specs.Firsts.{IsBehind}
@@ -19,6 +19,11 @@ threads_of ws = map (λ w. w.thread) ws
 -- when a thread is due
 abbrev pub limit_of : Waiter → Option Due
 limit_of w = option_map (λ t. record { tick = t; thread = w.thread }) w.due
+
+-- when a thread in a queue is due: never in one of the first four
+abbrev pub limit_in : Option ℕ → Waiter → Option Due
+limit_in None w = None
+limit_in (Some q) w = if nat_lt q 4 then None else limit_of w
 
 -- no thread
 abbrev pub nothing : Slotted
@@ -47,7 +52,7 @@ without_thread s t = record { live = without_first (λ x. x == t) s.live; queues
 abbrev pub IsApart : Slotted → ℕ → Type 0
 IsApart s t = (q : ℕ) → times t (threads_of (queue_at s q)) ≡ 0
 
--- there is a thread in a queue with a limit, and none before it; there is none only where no thread in a queue has a limit
+-- it is when a thread in a queue is due, and no thread in a queue is due before it; there is none only where none is due ever
 pub record IsFirstOf (s : Slotted) (first : Option Due) : Type 0 where
-  pub among : (d : Due) → first ≡ Some d → (q : ℕ) × (w : Waiter) × (k : ℕ) × (slice_get (queue_at s q) k ≡ Some w) × (limit_of w ≡ Some d)
-  pub behind : (q k : ℕ) (w : Waiter) (d : Due) → slice_get (queue_at s q) k ≡ Some w → limit_of w ≡ Some d → IsBehind d first
+  pub among : (d : Due) → first ≡ Some d → (q : ℕ) × (k : ℕ) × (w : Waiter) × (slice_get (queue_at s q) k ≡ Some w) × (limit_in (Some q) w ≡ Some d)
+  pub behind : (q k : ℕ) (w : Waiter) (d : Due) → slice_get (queue_at s q) k ≡ Some w → limit_in (Some q) w ≡ Some d → IsBehind d first

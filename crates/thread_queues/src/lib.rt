@@ -4,8 +4,8 @@
 #![tactic(auto)]
 
 mod due;
-mod limits;
 pub mod event;
+mod limits;
 pub mod places;
 mod ready;
 mod slots;

@@ -6,7 +6,7 @@ ghost use Rattle.std.specs.Prelude.{◌≡◌, ◌==◌, ◌<◌, ◌≤◌, ◌
 ghost use Rattle.link_lists.specs.Lists.{list_at, list_count, has};
 ghost use Rattle.thread_queues.specs.Events.{is_event};
 ghost use Rattle.thread_queues.specs.Placed.{times};
-ghost use Rattle.thread_queues.specs.Slotted.{queue_at, threads_of, nothing, put_in, taken_from, popped_from, with_thread, without_thread, limit_of, IsApart, IsFirstOf};
+ghost use Rattle.thread_queues.specs.Slotted.{queue_at, threads_of, nothing, put_in, taken_from, popped_from, with_thread, without_thread, limit_in, IsApart, IsFirstOf};
 ghost use Rattle.thread_queues.specs.Laid.{block_at, bucket_of, bucket_in};
 
 use crate::event::{Due, Event, Waiter, same_event};
@@ -20,6 +20,7 @@ use std::marker::Model;
 
 /// The places of live threads, and those that no thread has.
 const LIVE: u32 = 0;
+
 const FREE: u32 = 1;
 
 /// The queue of the threads that wait.
@@ -30,6 +31,7 @@ const QUEUES: u32 = 6;
 
 /// The bucket of those that do not wait, and how many buckets there are.
 const OTHERS: u32 = 263;
+
 const BUCKETS: u32 = 264;
 
 /// Live threads in six queues.
@@ -144,7 +146,7 @@ impl Slots {
         self.blocks[id as usize] = waiter;
         self.queues.push_back(queue, id);
         self.buckets.push_back(bucket_in(queue, waiter.event), id);
-        self.limits.set(id as usize, limit_of(waiter));
+        self.limits.set(id as usize, limit_in(queue, waiter));
     }
 
     /// A thread leaves its queue.
@@ -188,7 +190,7 @@ impl Slots {
         ensures { IsTrue result ↔ (0 < times thread (threads_of (queue_at self.now queue))) }
     {
         match self.numbers.get(&thread) {
-            Some(id) => self.queues.home(*id) == Some(queue),
+            Some(id) => is_home(self.queues.home(*id), queue),
             None => false,
         }
     }
@@ -216,6 +218,16 @@ impl Slots {
     }
 }
 
+/// Whether this list is the one.
+fn is_home(home: Option<u32>, list: u32) -> bool
+    ensures { IsTrue result ↔ (home ≡ Some list) }
+{
+    match home {
+        Some(other) => other == list,
+        None => false,
+    }
+}
+
 /// The blocks of a list of ids, from its front on.
 fn listed(
     alloc: Global,
@@ -237,12 +249,7 @@ fn listed(
 }
 
 /// The thread of the first block for an event in a list of ids.
-fn first_of_bucket(
-    lists: &Lists,
-    list: u32,
-    blocks: &[Waiter],
-    event: Event,
-) -> Option<ThreadNo>
+fn first_of_bucket(lists: &Lists, list: u32, blocks: &[Waiter], event: Event) -> Option<ThreadNo>
     requires there { list < list_count lists.now }
     requires blocks { (x : ℕ) → has x (list_at lists.now list) ≡ true → x < length blocks.now }
     ensures { result
@@ -289,10 +296,13 @@ fn bucket_of(event: Event) -> u32
     }
 }
 
-/// When a thread is due.
-fn limit_of(waiter: Waiter) -> Option<Due>
-    ensures { result ≡ limit_of waiter }
+/// When a thread in a queue is due: never in a ready queue.
+fn limit_in(queue: u32, waiter: Waiter) -> Option<Due>
+    ensures { result ≡ limit_in (Some queue) waiter }
 {
+    if queue < WAITS {
+        return None;
+    }
     let tick = waiter.due?;
     Some(Due {
         tick,

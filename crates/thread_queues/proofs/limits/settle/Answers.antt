@@ -19,8 +19,8 @@ pub loop-at-preserved : goal.loop-at-preserved
 loop-at-preserved c = record {
   below = omega (arith, c.loop-at.invariant.below, length-set {A = Node});
   settled =
-    subst (λ (f : Option Due). SettledBut (set c.loop-at.nodes (c.loop-at.at - 1) (record { own = own_at c.loop-at.nodes (c.loop-at.at - 1); first = f })) (c.loop-at.at / 2)) (sym c.first_below.ensures)
-    (settle-up c.loop-at.nodes c.loop-at.at (c.loop-at.at - 1) (omega arith) (omega (arith, c.loop-at.invariant.below)) c.loop-at.invariant.settled);
+      subst (λ (f : Option Due). SettledBut (set c.loop-at.nodes (c.loop-at.at - 1) (record { own = own_at c.loop-at.nodes (c.loop-at.at - 1); first = f })) (c.loop-at.at / 2)) (sym c.first_below.ensures)
+      (settle-up c.loop-at.nodes c.loop-at.at (c.loop-at.at - 1) (omega arith) (omega (arith, c.loop-at.invariant.below)) c.loop-at.invariant.settled);
   own = map-set_same (λ (n : Node). n.own) c.loop-at.nodes (c.loop-at.at - 1) _ no_node refl ∙ c.loop-at.invariant.own;
 }
 

@@ -6,6 +6,6 @@ use Rattle.thread_queues.proofs.limits.Limits.add.Goals as goal
 
 pub invariant_of-self-2 : goal.invariant_of-self-2
 invariant_of-self-2 c = subst (λ (ns : List Node). IsLimited ns) (sym c.in_ok-push.ensures.items) (record {
-      tree = tree-more c.self.inside.nodes.items c.self.invariant.tree;
-      few = omega (arith, c.if-len-ge-MOST.false, c.len.ensures, length-append c.self.inside.nodes.items (no_node ∷ []));
-    })
+  tree = tree-more c.self.inside.nodes.items c.self.invariant.tree;
+  few = omega (arith, c.if-len-ge-MOST.false, c.len.ensures, length-append c.self.inside.nodes.items (no_node ∷ []));
+})

@@ -3,7 +3,7 @@ use Rattle.std.proofs.Math.ListN.{set}
 use Rattle.std.specs.HashMap.{get}
 use Rattle.thread_queues.specs.declared.event.Due.{Due}
 use Rattle.thread_queues.specs.Placed.{times}
-use Rattle.thread_queues.specs.Slotted.{limit_of, Slotted, put_in, IsApart}
+use Rattle.thread_queues.specs.Slotted.{Slotted, put_in, IsApart}
 use Rattle.thread_queues.specs.Laid.{IsLaid}
 use Rattle.thread_queues.proofs.Laying.{IsPushed, live-found, free-at, put-laid, put-shown}
 use Rattle.thread_queues.proofs.slots.Slots.put.Goals as goal
@@ -45,9 +45,9 @@ invariant_of-self c =
     let x = c.in-Some.id.now in
     let at = free-at _ _ _ _ _ _ c.self.invariant c.args.waiter.thread x (sym c.in-Some.ensures.value) (subst (λ (s : Slotted). IsApart s c.args.waiter.thread) (sym c.self.view_is) c.requires.apart) in
     let bucket = subst (λ (b : ℕ). IsPushed a.buckets c.push_back-2.new.self b x) c.bucket_in.ensures.bucket (record { list = c.push_back-2.ensures.list; home = c.push_back-2.ensures.home; counts = c.push_back-2.ensures.counts; sound = c.push_back-2.ensures.sound }) in
-    subst (λ (li : List (Option Due)). IsLaid a.alive c.push_back.new.self c.push_back-2.new.self (set a.blocks.items x c.args.waiter) li (get nat_eq a.numbers)) (sym (c.set.ensures ∙ ap (set a.limits x) c.limit_of.ensures))
+    subst (λ (li : List (Option Due)). IsLaid a.alive c.push_back.new.self c.push_back-2.new.self (set a.blocks.items x c.args.waiter) li (get nat_eq a.numbers)) (sym (c.set.ensures ∙ ap (set a.limits x) c.limit_in.ensures))
     (put-laid a.alive a.queues a.buckets a.blocks.items a.limits (get nat_eq a.numbers) c.self.invariant c.push_back.new.self c.push_back-2.new.self c.args.queue x c.args.waiter c.requires.queue at.live at.number at.free
-      (record { list = c.push_back.ensures.list; home = c.push_back.ensures.home; counts = c.push_back.ensures.counts; sound = c.push_back.ensures.sound }) bucket)
+    (record { list = c.push_back.ensures.list; home = c.push_back.ensures.home; counts = c.push_back.ensures.counts; sound = c.push_back.ensures.sound }) bucket)
 
 pub returns : goal.returns
 returns c =
@@ -56,5 +56,5 @@ returns c =
     let at = free-at _ _ _ _ _ _ c.self.invariant c.args.waiter.thread x (sym c.in-Some.ensures.value) (subst (λ (s : Slotted). IsApart s c.args.waiter.thread) (sym c.self.view_is) c.requires.apart) in
     let bucket = subst (λ (b : ℕ). IsPushed a.buckets c.push_back-2.new.self b x) c.bucket_in.ensures.bucket (record { list = c.push_back-2.ensures.list; home = c.push_back-2.ensures.home; counts = c.push_back-2.ensures.counts; sound = c.push_back-2.ensures.sound }) in
     put-shown a.alive a.queues a.buckets a.blocks.items a.limits (get nat_eq a.numbers) c.self.invariant c.push_back.new.self c.push_back-2.new.self c.args.queue x c.args.waiter c.requires.queue at.live at.number at.free
-      (record { list = c.push_back.ensures.list; home = c.push_back.ensures.home; counts = c.push_back.ensures.counts; sound = c.push_back.ensures.sound }) bucket
+    (record { list = c.push_back.ensures.list; home = c.push_back.ensures.home; counts = c.push_back.ensures.counts; sound = c.push_back.ensures.sound }) bucket
     ∙ ap (λ (s : Slotted). put_in s c.args.queue c.args.waiter) c.self.view_is
