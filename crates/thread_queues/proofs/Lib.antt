@@ -1,4 +1,5 @@
 pub mod Buckets
+pub mod Counted
 pub mod Counting
 pub mod Growing
 pub mod Ids
@@ -6,6 +7,7 @@ pub mod Laying
 pub mod Leaving
 pub mod Living
 pub mod Moving
+pub mod Placing
 pub mod Removing
 pub mod Roots
 pub mod Telling

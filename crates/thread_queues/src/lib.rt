@@ -7,7 +7,6 @@ mod due;
 pub mod event;
 mod limits;
 pub mod places;
-mod ready;
 mod slots;
 #[cfg(test)]
 mod tests;
