@@ -1,8 +1,8 @@
 //! Replies to statements.
 ghost use Rattle.std.specs.Prelude.{◌≡◌, IfOk};
 
-use crate::list::List;
 use crate::memory::Memory;
+use crate::shared::Shared;
 use crate::value::Row;
 use std::alloc::Global;
 
@@ -14,7 +14,7 @@ pub enum Reply {
     /// So many rows were changed.
     Changed(u64),
     /// The rows that a SELECT lists, by key.
-    Selected(List<Row>),
+    Selected(Shared<Row>),
     /// BEGIN WORK opened a transaction.
     Begun,
     /// COMMIT WORK ended it.
@@ -33,21 +33,8 @@ pub enum Reply {
     BadShape,
 }
 
-impl List<Row> {
-    /// The same rows.
-    pub fn copy(&self, alloc: Global) -> Result<List<Row>, Memory>
-        ensures { IfOk result (λ rows. rows ≡ self.now) }
-    {
-        let mut copy = List::with_capacity(alloc, self.len())?;
-        for row in self.as_slice() {
-            copy.push(row.copy(alloc)?)?;
-        }
-        Ok(copy)
-    }
-}
-
 impl Reply {
-    /// The same reply.
+    /// The same reply, which shares its rows. Takes no memory.
     pub fn copy(&self, alloc: Global) -> Result<Reply, Memory>
         ensures { IfOk result (λ reply. reply ≡ self.now) }
     {

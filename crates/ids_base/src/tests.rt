@@ -4,6 +4,8 @@ use crate::list::List;
 use crate::name::Name;
 use crate::plan::{DataStatement, Plan};
 use crate::reply::Reply;
+use crate::row_bytes::RowBytes;
+use crate::row_id::{RowId, slots_per_page};
 use crate::shape::{Column, Kind};
 use crate::value::Value;
 use std::test::Fail;
@@ -48,11 +50,14 @@ fn copies_are_given(rt: HostRuntime) -> Result<(), Fail> {
     let mut more = List::new(alloc);
     more.push(Value::Int(8))?;
     row.append(more)?;
+    let row = row.share(alloc)?;
     assert_eq!(rt; row.len(), 3);
+    assert!(rt; !row.is_empty());
     let plan = Plan::Data(DataStatement::Insert {
         table: name.copy(),
         row: row.copy(alloc)?,
     });
+    let shape = shape.share(alloc)?;
     let create = Plan::Data(DataStatement::CreateTable { table: name, shape });
     assert!(rt; matches!(plan.copy(alloc)?, Plan::Data(DataStatement::Insert { .. })));
     assert!(rt;
@@ -63,9 +68,22 @@ fn copies_are_given(rt: HostRuntime) -> Result<(), Fail> {
     );
     let mut rows = List::new(alloc);
     rows.push(row)?;
-    let Reply::Selected(copied) = Reply::Selected(rows).copy(alloc)? else {
+    let Reply::Selected(copied) = Reply::Selected(rows.share(alloc)?).copy(alloc)? else {
         return Err("another reply".into());
     };
     assert_eq!(rt; copied.len(), 1);
+    Ok(())
+}
+
+#[test]
+fn slots_of_pages(rt: HostRuntime) -> Result<(), Fail> {
+    for (length, slots) in [(8, 223), (359, 5), (800, 2), (1, 255)] {
+        assert_eq!(rt; slots_per_page(length), slots, "{length}");
+    }
+    let row = RowId { page: 2, slot: 1 };
+    assert_eq!(rt; row.number(), 513);
+    assert!(rt; RowId::from_number(513) == row);
+    let bytes = RowBytes::new(rt.alloc(), b"ab")?;
+    assert_eq!(rt; bytes.copy(rt.alloc())?.bytes(), b"ab".as_slice());
     Ok(())
 }

@@ -16,6 +16,7 @@ use ids_base::name::Name;
 use ids_base::plan::{DataStatement, Term};
 use ids_base::reply::Reply;
 use ids_base::shape::Shape;
+use ids_base::shared::Shared;
 use ids_base::value::{Row, Value};
 use std::alloc::Global;
 
@@ -78,14 +79,14 @@ fn insert(alloc: Global, name: &Name, row: &Row, table: &PlainTable) -> Result<O
 }
 
 // The rows of a list of keys and rows.
-fn rows_of(alloc: Global, found: &[(&Value, &Row)]) -> Result<List<Row>, Memory>
+fn rows_of(alloc: Global, found: &[(&Value, &Row)]) -> Result<Shared<Row>, Memory>
     ensures { IfOk result (λ rows. rows ≡ map_list (λ e. e.1) (map_list deref_pair found.now)) }
 {
     let mut rows = List::with_capacity(alloc, found.len())?;
     for (_, row) in found {
         rows.push(row.copy(alloc)?)?;
     }
-    Ok(rows)
+    rows.share(alloc)
 }
 
 // SELECT under a condition that fits the table.
@@ -96,8 +97,8 @@ fn select(alloc: Global, table: &PlainTable, terms: &[Term]) -> Result<Outcome, 
     Ok(only(alloc, Reply::Selected(rows_of(alloc, found.as_slice())?)))
 }
 
-/// What a statement gives over the tables, which stay as they are. A statement by key takes logarithmic time and one copy of
-/// its row; another SELECT looks at each row of its table.
+/// What a statement gives over the tables, which stay as they are. A statement by key takes logarithmic time, and rows
+/// are shared; another SELECT looks at each row of its table.
 pub fn outcome_of(
     alloc: Global,
     tables: &PlainTables,
@@ -160,14 +161,14 @@ mod tests {
         }
         Ok(DataStatement::CreateTable {
             table: name(table)?,
-            shape,
+            shape: shape.share(alloc)?,
         })
     }
 
-    fn insert(table: &str, values: Vec<Value>) -> Result<DataStatement, Memory> {
+    fn insert(alloc: Global, table: &str, values: Vec<Value>) -> Result<DataStatement, Memory> {
         Ok(DataStatement::Insert {
             table: name(table)?,
-            row: List::from_vec(values),
+            row: List::from_vec(values).share(alloc)?,
         })
     }
 
@@ -223,10 +224,10 @@ mod tests {
         let again = run(alloc, &mut tables, create(alloc, "t", &columns)?)?;
         assert!(rt; matches!(again, Reply::TableExists));
         let row = vec![in alloc; Value::Int(7), Value::Chars(Chars::new(alloc, b"ab")?)]?;
-        let first = run(alloc, &mut tables, insert("t", row)?)?;
+        let first = run(alloc, &mut tables, insert(alloc, "t", row)?)?;
         assert!(rt; matches!(first, Reply::Changed(1)));
         let row = vec![in alloc; Value::Int(7), Value::Chars(Chars::new(alloc, b"")?)]?;
-        let second = run(alloc, &mut tables, insert("t", row)?)?;
+        let second = run(alloc, &mut tables, insert(alloc, "t", row)?)?;
         assert!(rt; matches!(second, Reply::Duplicate));
         let found = run(
             alloc,
@@ -260,7 +261,7 @@ mod tests {
         )?;
         for key in [3, -5, 2147483647, 0, -2147483647] {
             let row = vec![in alloc; Value::Int(key), Value::Int(1)]?;
-            run(alloc, &mut tables, insert("t", row)?)?;
+            run(alloc, &mut tables, insert(alloc, "t", row)?)?;
         }
         let all = select(alloc, "t", "v", Comparison::Equal, Value::Int(1))?;
         let all = run(alloc, &mut tables, all)?;
@@ -285,7 +286,7 @@ mod tests {
         let alloc = rt.alloc();
         let mut tables = PlainTables::new(alloc);
         let row = vec![in alloc; Value::Int(7)]?;
-        let put = run(alloc, &mut tables, insert("t", row)?)?;
+        let put = run(alloc, &mut tables, insert(alloc, "t", row)?)?;
         assert!(rt; matches!(put, Reply::NoTable));
         let looked = select(alloc, "t", "k", Comparison::Equal, Value::Int(7))?;
         let looked = run(alloc, &mut tables, looked)?;
@@ -349,11 +350,11 @@ mod tests {
             ]?,
         ];
         for row in bad {
-            let reply = run(alloc, &mut tables, insert("t", row)?)?;
+            let reply = run(alloc, &mut tables, insert(alloc, "t", row)?)?;
             assert!(rt; matches!(reply, Reply::BadShape));
         }
         let row = vec![in alloc; Value::Int(7), Value::Chars(Chars::new(alloc, b"ab   ")?)]?;
-        let reply = run(alloc, &mut tables, insert("t", row)?)?;
+        let reply = run(alloc, &mut tables, insert(alloc, "t", row)?)?;
         assert!(rt; matches!(reply, Reply::Changed(1)));
         Ok(())
     }

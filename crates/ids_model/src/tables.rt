@@ -219,7 +219,7 @@ impl PlainTables {
         }
     }
 
-    /// Makes changes in order, each in logarithmic time and with a copy of its row. Without memory all tables stay as they
+    /// Makes changes in order, each in logarithmic time, with rows that are shared. Without memory all tables stay as they
     /// were, whichever change failed.
     pub fn apply(&mut self, effects: &[Effect]) -> Result<(), Memory>
         requires fits { Fits self.now effects.now }
@@ -237,7 +237,7 @@ fn copy_or_mark(alloc: Global, after: &Option<Row>) -> Result<Row, Memory>
     ensures { IfOk result (λ row. row ≡ row_or_mark after.now) }
 {
     match after {
-        None => Ok(List::new(alloc)),
+        None => List::new(alloc).share(alloc),
         Some(row) => row.copy(alloc),
     }
 }
@@ -273,7 +273,7 @@ mod tests {
         let mut row = List::with_capacity(alloc, 2)?;
         row.push(Value::Int(key))?;
         row.push(Value::Int(number))?;
-        Ok(Some(row))
+        Ok(Some(row.share(alloc)?))
     }
 
     // The number beside a key of table t.
@@ -289,7 +289,7 @@ mod tests {
     fn one_table(alloc: Global) -> Result<PlainTables, Memory> {
         let mut tables = PlainTables::new(alloc);
         let name = Name::new(b"t").ok_or(Memory)?;
-        tables.put_table(&name, &List::new(alloc))?;
+        tables.put_table(&name, &List::new(alloc).share(alloc)?)?;
         Ok(tables)
     }
 
@@ -332,7 +332,7 @@ mod tests {
         let name = Name::new(b"t").ok_or(Memory)?;
         let table = Effect::NewTable {
             name,
-            shape: List::new(alloc),
+            shape: List::new(alloc).share(alloc)?,
         };
         let old = tables.put(&table)?;
         tables.take_back(&table, old);

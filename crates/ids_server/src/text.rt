@@ -2,11 +2,12 @@
 ghost use Rattle.std.specs.Prelude.{◌≡◌, ◌++◌, List, ℕ, [], ◌∷◌, codes, length};
 ghost use Rattle.ids_model.specs.Text.{escaped, value_text, row_text, head_text, line, rows_text, count_text, reply_text, given_text};
 ghost use Rattle.ids_server.specs.Printing.{PrinterPuts};
-ghost use Rattle.ids_server.specs.Lines.{why_text, status_line};
+ghost use Rattle.ids_server.specs.Lines.{why_text, place_text, status_line};
 
 use crate::printer::Printer;
+use ids_base::position::LogPos;
 use ids_base::reply::Reply;
-use ids_base::status::{Status, Why};
+use ids_base::status::{Place, Status, Why};
 use ids_base::value::{Row, Value};
 use ids_model::journal::Given;
 use ids_outside::Sink;
@@ -143,6 +144,55 @@ fn put_bad_script<K: Sink>(printer: &mut Printer<K>, byte: u64, why: Why)
     put_why(printer, why);
 }
 
+// Puts where a record stands.
+fn put_record<K: Sink>(printer: &mut Printer<K>, at: LogPos)
+    ensures { PrinterPuts K.tells K.taken K.fault_count printer.old printer.new (place_text (Place.Record at)) }
+{
+    put_named(printer, b"record ", at.block);
+    printer.put(b".");
+    put_number(printer, at.index);
+}
+
+// Puts a place of damage.
+fn put_place<K: Sink>(printer: &mut Printer<K>, place: Place)
+    ensures { PrinterPuts K.tells K.taken K.fault_count printer.old printer.new (place_text place) }
+{
+    match place {
+        Place::Identity => printer.put(b"identity"),
+        Place::Checkpoint(page) => put_named(printer, b"checkpoint ", page),
+        Place::Entry(entry) => put_named(printer, b"entry ", entry),
+        Place::DataPage(page) => put_named(printer, b"page ", page),
+        Place::Block(block) => put_named(printer, b"block ", block),
+        Place::Record(at) => put_record(printer, at),
+        Place::Row(row) => put_named(printer, b"row ", row),
+    }
+}
+
+// Puts a number behind a word.
+fn put_named<K: Sink, I: Integer>(printer: &mut Printer<K>, word: &[u8], number: I)
+    ensures { PrinterPuts K.tells K.taken K.fault_count printer.old printer.new (word.now ++ I.text number) }
+{
+    printer.put(word);
+    put_number(printer, number);
+}
+
+fn put_damaged<K: Sink>(printer: &mut Printer<K>, place: Place)
+    ensures { PrinterPuts K.tells K.taken K.fault_count printer.old printer.new (status_line (Status.Damaged place)) }
+{
+    printer.put(b"ids: 9 damaged ");
+    put_place(printer, place);
+    printer.put(b"\n");
+}
+
+fn put_too_small<K: Sink>(printer: &mut Printer<K>, pages: u32, needed: u32)
+    ensures { PrinterPuts K.tells K.taken K.fault_count printer.old printer.new (status_line (Status.TooSmall pages needed)) }
+{
+    put_named(printer, b"ids: 11 too small root ", pages);
+    printer.put(b" needed ");
+    put_number(printer, needed);
+    printer.put(b"\n");
+}
+
 /// Puts the line of a status, where it has one.
 pub fn put_status<K: Sink>(printer: &mut Printer<K>, status: &Status)
     ensures { PrinterPuts K.tells K.taken K.fault_count printer.old printer.new (status_line status.now) }
@@ -151,8 +201,14 @@ pub fn put_status<K: Sink>(printer: &mut Printer<K>, status: &Status)
         Status::Done | Status::SinkFault => printer.put(b""),
         Status::BadWords => printer.put(b"ids: 1 bad words\n"),
         Status::BadScript { byte, why } => put_bad_script(printer, *byte, *why),
+        Status::DiskFault => printer.put(b"ids: 3 disk fault\n"),
         Status::Memory => printer.put(b"ids: 4 memory\n"),
         Status::SourceFault => printer.put(b"ids: 6 source fault\n"),
         Status::TooLong => printer.put(b"ids: 7 script too long\n"),
+        Status::NotFormatted => printer.put(b"ids: 8 not formatted\n"),
+        Status::Damaged(place) => put_damaged(printer, *place),
+        Status::AlreadyFormatted => printer.put(b"ids: 10 already formatted\n"),
+        Status::TooSmall { pages, needed } => put_too_small(printer, *pages, *needed),
+        Status::LogFull => printer.put(b"ids: 13 log full\n"),
     }
 }

@@ -75,7 +75,7 @@ fn shape(alloc: Global, reader: &mut Reader) -> Result<Shape, Memory>
         shape.push(next_column(reader))?;
         more = reader.comma(Place::Next);
     }
-    Ok(shape)
+    shape.share(alloc)
 }
 
 // The values in brackets, behind the opening one.
@@ -92,7 +92,7 @@ fn row(alloc: Global, reader: &mut Reader) -> Result<Row, Memory>
         row.push(reader.value(alloc, Place::ValueEnd)?)?;
         more = reader.comma(Place::Value);
     }
-    Ok(row)
+    row.share(alloc)
 }
 
 // CREATE TABLE, behind its first word.
@@ -141,7 +141,7 @@ fn select(alloc: Global, reader: &mut Reader) -> Result<DataStatement, Memory>
     let column = reader.name(Place::TermName);
     reader.only(Kind::Sign(Sign::Equal), Place::TermValue);
     let value = reader.value(alloc, Place::StatementEnd)?;
-    let mut condition = List::new(alloc);
+    let mut condition = List::with_capacity(alloc, 1)?;
     condition.push(Term {
         column,
         comparison: Comparison::Equal,

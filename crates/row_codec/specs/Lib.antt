@@ -1,0 +1,4 @@
+pub mod Rows
+pub mod Catalogue
+pub mod Premises
+pub mod Views

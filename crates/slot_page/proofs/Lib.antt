@@ -1,0 +1,9 @@
+pub mod SlotBytes
+pub mod SlotTests
+pub mod HeadBytes
+pub mod WholePages
+pub mod Spelled
+pub mod Accepted
+pub mod InSlots
+pub mod Empty
+pub mod PutSlots
