@@ -44,7 +44,7 @@ counted-dispatched p vp class there free c = counted-step p (record p { ready = 
     omega (arith, queues-pop f ad p.ready class, none, ad.nil, queues-parts f p.ready, queues-parts f (with_queue p.ready class (drop 1 (queue p.ready class))), running-set f ad p.running vp (slice_get (queue p.ready class) 0) there))
 
 -- the first that passes is taken out
-first-out : {X : Type 0} (f : List ℕ → ℕ) → Additive f → (g : X → ℕ) (test : X → Bool) (xs : List X) (x : X) → find test xs ≡ Some x → f (map g (without_first test xs)) + f (g x ∷ []) ≡ f (map g xs)
+pub first-out : {X : Type 0} (f : List ℕ → ℕ) → Additive f → (g : X → ℕ) (test : X → Bool) (xs : List X) (x : X) → find test xs ≡ Some x → f (map g (without_first test xs)) + f (g x ∷ []) ≡ f (map g xs)
 first-out f ad g test [] x e = cc
 first-out {X} f ad g test (y ∷ ys) x e = by-test (test y) refl (first-out f ad g test ys x)
   where
@@ -102,7 +102,7 @@ find-passes {X} test (y ∷ ys) x e = by-test (test y) refl (find-passes test ys
     by-test true h rest = ap test (sym (some-same (sym (ap (λ (b : Bool). cond b (Some y) (find test ys)) h) ∙ e))) ∙ h
     by-test false h rest = rest (sym (ap (λ (b : Bool). cond b (Some y) (find test ys)) h) ∙ e)
 
-self-once : (t : ℕ) → times t (t ∷ []) ≡ 1
+pub self-once : (t : ℕ) → times t (t ∷ []) ≡ 1
 self-once t = let e = eq-eqb t t refl in omega (arith, ap {B = ℕ} (λ (b : Bool). cond b 1 0) e)
 
 -- the first with a number is taken out: it is counted once less

@@ -1,6 +1,7 @@
 pub mod Buckets
 pub mod Counted
 pub mod Counting
+pub mod Earliest
 pub mod Growing
 pub mod Ids
 pub mod Laying
@@ -13,4 +14,5 @@ pub mod Roots
 pub mod Telling
 pub mod Ticking
 pub mod Trees
+pub mod Waking
 pub mod Walking

@@ -1,5 +1,5 @@
 -- Threads in queues, by number.
-use Rattle.std.specs.Prelude.{ℕ, ◌≡◌, ◌==◌, nat_lt, if◌then◌else◌, Option, Some, None, List, [], ◌∷◌, ◌++◌, map, drop, slice_get, slice_set, slice_index_or, replicate, option_map}
+use Rattle.std.specs.Prelude.{ℕ, ◌≡◌, ◌==◌, nat_lt, if◌then◌else◌, Option, Some, None, List, [], ◌∷◌, ◌++◌, map, drop, slice_get, slice_set, slice_index_or, replicate, option_map, unwrap_or}
 use Rattle.thread_queues.specs.declared.event.Waiter.{Waiter}
 use Rattle.thread_queues.specs.declared.event.Due.{Due}
 use Rattle.thread_queues.specs.Firsts.{IsBehind}
@@ -20,10 +20,14 @@ threads_of ws = map (λ w. w.thread) ws
 abbrev pub limit_of : Waiter → Option Due
 limit_of w = option_map (λ t. record { tick = t; thread = w.thread }) w.due
 
--- when a thread in a queue is due: never in one of the first four
+-- when a thread is due that sleeps: at once where no tick is told
+abbrev pub sleep_limit : Waiter → Due
+sleep_limit w = record { tick = unwrap_or w.due 0; thread = w.thread }
+
+-- when a thread in a queue is due: never in one of the first four, in queue 4 where it has a limit, and always in those behind
 abbrev pub limit_in : Option ℕ → Waiter → Option Due
 limit_in None w = None
-limit_in (Some q) w = if nat_lt q 4 then None else limit_of w
+limit_in (Some q) w = if nat_lt q 4 then None else if q == 4 then limit_of w else Some (sleep_limit w)
 
 -- no thread
 abbrev pub nothing : Slotted

@@ -296,12 +296,18 @@ fn bucket_of(event: Event) -> u32
     }
 }
 
-/// When a thread in a queue is due: never in a ready queue.
+/// When a thread in a queue is due: never in a ready queue, and always where it sleeps.
 fn limit_in(queue: u32, waiter: Waiter) -> Option<Due>
     ensures { result ≡ limit_in (Some queue) waiter }
 {
     if queue < WAITS {
         return None;
+    }
+    if queue > WAITS {
+        return Some(Due {
+            tick: waiter.due.unwrap_or(0),
+            thread: waiter.thread,
+        });
     }
     let tick = waiter.due?;
     Some(Due {
