@@ -1,13 +1,13 @@
 -- Each thread stays in one place, as one moves.
-use Rattle.std.proofs.Common.{◌≡◌, ◌∙◌, ℕ, suc, ◌+◌, ◌<◌, ◌≤◌, ◌==◌, Bool, true, false, cond, List, [], ◌∷◌, ◌++◌, length, map, drop, get_or, refl, ap, sym, subst, arith, Option, Some, None, IsSome, option_to_list}
+use Rattle.std.proofs.Common.{◌≡◌, ◌∙◌, ℕ, ◌+◌, ◌<◌, ◌==◌, Bool, true, false, cond, List, [], ◌∷◌, ◌++◌, length, map, drop, refl, ap, sym, subst, arith, Option, Some, None, IsSome, option_to_list}
 use Rattle.std.proofs.Math.ListN.{set}
-use Rattle.std.specs.List.{flat_map, slice_get, find, position_or_len, remove}
+use Rattle.std.specs.List.{flat_map, slice_get, find, position_or_len}
 use Rattle.std.proofs.lemmas.List.{length-set}
 use Rattle.std.proofs.lemmas.Bool.{eq-eqb, eqb-true}
 use Rattle.ids_base.specs.declared.class.Class.{Class}
 use Rattle.thread_queues.specs.declared.event.Waiter.{Waiter}
 use Rattle.thread_queues.specs.declared.event.Sleeper.{Sleeper}
-use Rattle.thread_queues.specs.Placed.{Placed, Queues, queue, with_queue, times, without_first, running_at, stopped, readied, ended, thread_at}
+use Rattle.thread_queues.specs.Placed.{Placed, queue, with_queue, times, without_first, running_at, stopped, readied}
 use Rattle.thread_queues.specs.Kept.{all_places, IsCounted}
 use Rattle.thread_queues.proofs.Counting.{Additive, Additive-times, in_queues, queues-parts, queues-push, queues-pop, running-set, mapped-push, runs_lt, counted-step, counted-spawn}
 use Rattle.thread_queues.proofs.Removing.{counted-end, eqb-at, position-lt, without-position}

@@ -1,5 +1,5 @@
 -- The lists, blocks and limits stand for the threads, where places are added.
-use Rattle.std.proofs.Common.{◌≡◌, ◌∙◌, ℕ, zero, suc, ◌+◌, ◌<◌, ◌≤◌, ◌==◌, true, List, [], ◌∷◌, ◌++◌, length, map, get_or, refl, ap, sym, subst, arith, inl, inr, length-append, Option, Some, None, IsSome}
+use Rattle.std.proofs.Common.{◌≡◌, ◌∙◌, ℕ, zero, suc, ◌+◌, ◌≤◌, ◌==◌, true, List, [], ◌∷◌, ◌++◌, length, map, get_or, refl, ap, sym, subst, arith, inl, inr, length-append, Option, Some, None, IsSome}
 use Rattle.std.specs.List.{filter}
 use Rattle.std.proofs.lemmas.List.{get_or_past}
 use Rattle.std.proofs.lemmas.Bool.{cases_eq}
@@ -8,7 +8,7 @@ use Rattle.link_lists.proofs.Members.{has-first}
 use Rattle.thread_queues.specs.declared.event.Due.{Due}
 use Rattle.thread_queues.specs.declared.event.Waiter.{Waiter}
 use Rattle.thread_queues.specs.Firsts.{due_at}
-use Rattle.thread_queues.specs.Slotted.{limit_in, Slotted, nothing}
+use Rattle.thread_queues.specs.Slotted.{limit_in, nothing}
 use Rattle.thread_queues.specs.Laid.{no_waiter, block_at, number_at, bucket_of, slotted, IsLaid}
 use Rattle.thread_queues.proofs.Moving.{same-at}
 use Rattle.thread_queues.proofs.Laying.{IsPushed}
@@ -77,34 +77,6 @@ module _ (al qs bu : Lists) (bs : List Waiter) (li : List (Option Due)) (id_of :
         ∙ ap (λ (f : ℕ → Waiter). filter (λ x. bucket_of (f x).event == b) (list_at qs' 4)) (sym (fun_ext blocks));
     limited = λ x. limits x ∙ laid.limited x ∙ ap (λ (o : Option ℕ). limit_in o (block_at bs x)) (sym (queues.homes x)) ∙ ap (limit_in (home_at qs' x)) (sym (blocks x));
   }
-
--- no thread, and no place
-pub laid-none : (al qs bu : Lists) (id_of : ℕ → Option ℕ) → IsSound al → IsSound qs → IsSound bu → list_count al ≡ 2 → list_count qs ≡ 6 → list_count bu ≡ 264
-    → id_count al ≡ 0 → id_count qs ≡ 0 → id_count bu ≡ 0 → ((k : ℕ) → list_at qs k ≡ []) → ((k : ℕ) → list_at bu k ≡ []) → ((t : ℕ) → id_of t ≡ None) → IsLaid al qs bu [] [] id_of
-laid-none al qs bu id_of sa sq sb ca cq cb na nq nb eq eb none = record {
-  alive_sound = sa;
-  queues_sound = sq;
-  buckets_sound = sb;
-  alive_count = ca;
-  queue_count = cq;
-  bucket_count = cb;
-  queues_room = omega (arith, na, nq);
-  buckets_room = omega (arith, na, nb);
-  blocks_room = omega (arith, na);
-  limits_room = omega (arith, na);
-  lives = λ x q e. absurd (none-some (homeless qs nq x) e);
-  found = λ t x. (λ e. absurd (none-some (none t) e), λ r. absurd (none-some (homeless al na x) r.0));
-  unbucketed = λ x e. homeless bu nb x;
-  in_bucket = λ x q e. absurd (none-some (homeless qs nq x) e);
-  bucketed = λ b lt. eb b ∙ sym (ap (filter (λ x. bucket_of (block_at [] x).event == b)) (eq 4));
-  limited = λ x. sym (ap (λ (o : Option ℕ). limit_in o (block_at [] x)) (homeless qs nq x));
-}
-  where
-    none-some : {o : Option ℕ} {l : ℕ} → o ≡ None → o ≡ Some l → ⊥
-    none-some e f = cc
-
-    homeless : (v : Lists) → id_count v ≡ 0 → (x : ℕ) → home_at v x ≡ None
-    homeless v n x = get_or_past v.homes x None (omega (arith, n))
 
 pub blocks-more : (bs bs' : List Waiter) → bs' ≡ bs ++ no_waiter ∷ [] → ((x : ℕ) → block_at bs' x ≡ block_at bs x) × (length bs' ≡ length bs + 1)
 blocks-more bs bs' e = (λ x. ap (λ (ws : List Waiter). block_at ws x) e ∙ default-more bs no_waiter x, ap length e ∙ length-append bs (no_waiter ∷ []))

@@ -1,10 +1,9 @@
 -- Lists of ids, and what is kept for each.
-use Rattle.std.proofs.Common.{◌≡◌, ◌≢◌, ◌∙◌, ℕ, zero, suc, ◌+◌, ◌<◌, ◌≤◌, ◌==◌, Bool, true, false, cond, not, ◌||◌, List, [], ◌∷◌, ◌++◌, length, map, get_or, refl, ap, sym, subst, arith, ◌⊎◌, inl, inr, Option, Some, None}
+use Rattle.std.proofs.Common.{◌≡◌, ◌≢◌, ◌∙◌, ℕ, zero, suc, ◌<◌, ◌==◌, Bool, true, false, cond, not, List, [], ◌∷◌, ◌++◌, map, refl, ap, sym, subst, arith, ◌⊎◌, inl, inr, Some}
 use Rattle.std.specs.List.{filter, find, slice_get}
-use Rattle.std.proofs.lemmas.Bool.{cases_eq, cases_Bool}
-use Rattle.std.proofs.lemmas.Bool.Decides.{eqb_tells, nat_tests}
+use Rattle.std.proofs.lemmas.Bool.Decides.{eqb_tells}
 use Rattle.link_lists.specs.Lists.{has, Once, without}
-use Rattle.link_lists.proofs.Members.{has-first, has-later, has-cons, has-both, not-has, same_test, other_test}
+use Rattle.link_lists.proofs.Members.{has-first, has-later, has-cons, has-both, not-has, same_test}
 use Rattle.thread_queues.specs.Placed.{times, without_first}
 
 -- a number is counted where something stands for it
@@ -34,17 +33,6 @@ pub filter-same : (p q : ℕ → Bool) (xs : List ℕ) → ((x : ℕ) → has x 
 filter-same p q [] h = refl
 filter-same p q (y ∷ ys) h =
     ap (λ (b : Bool). cond b (y ∷ filter p ys) (filter p ys)) (h y (has-first y ys)) ∙ ap (λ (vs : List ℕ). cond (q y) (y ∷ vs) vs) (filter-same p q ys (λ x k. h x (has-later x y ys k)))
-
-pub has-filter : (p : ℕ → Bool) (xs : List ℕ) (x : ℕ) → has x (filter p xs) ≡ true → (has x xs ≡ true) × (p x ≡ true)
-has-filter p [] x h = cc
-has-filter p (y ∷ ys) x h = by-test (p y) refl (has-filter p ys x)
-  where
-    by-test : (b : Bool) → p y ≡ b → (has x (filter p ys) ≡ true → (has x ys ≡ true) × (p x ≡ true)) → (has x (y ∷ ys) ≡ true) × (p x ≡ true)
-    by-test true e rest = elim (has-cons x y (filter p ys) (subst (λ (c : Bool). has x (cond c (y ∷ filter p ys) (filter p ys)) ≡ true) e h)) [
-      | inl k ↦ (subst (λ (j : ℕ). has j (y ∷ ys) ≡ true) k (has-first y ys), ap p (sym k) ∙ e)
-      | inr r ↦ let s = rest r in (has-later x y ys s.0, s.1)
-    ]
-    by-test false e rest = let s = rest (subst (λ (c : Bool). has x (cond c (y ∷ filter p ys) (filter p ys)) ≡ true) e h) in (has-later x y ys s.0, s.1)
 
 -- one more at the end
 pub filter-end : (p : ℕ → Bool) (xs : List ℕ) (x : ℕ) → filter p (xs ++ x ∷ []) ≡ cond (p x) (filter p xs ++ x ∷ []) (filter p xs)

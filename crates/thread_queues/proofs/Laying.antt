@@ -1,20 +1,19 @@
 -- The lists, blocks and limits stand for the threads, as a thread goes into a queue and out of it.
-use Rattle.std.proofs.Common.{◌≡◌, ◌≢◌, ◌∙◌, ℕ, zero, suc, ◌+◌, ◌<◌, ◌≤◌, ◌==◌, Bool, true, false, cond, List, [], ◌∷◌, ◌++◌, length, map, get_or, refl, ap, sym, subst, arith, ◌⊎◌, inl, inr, Option, Some, None, IsSome}
+use Rattle.std.proofs.Common.{◌≡◌, ◌∙◌, ℕ, ◌<◌, ◌==◌, Bool, false, cond, List, [], ◌∷◌, ◌++◌, length, map, get_or, refl, ap, sym, subst, arith, inl, inr, Option, Some, None, IsSome}
 use Rattle.std.proofs.Math.ListN.{set}
-use Rattle.std.specs.List.{filter, find, slice_get}
-use Rattle.std.proofs.lemmas.List.{get_or-set_same, get_or-set_other, length-set, length-map, map-append, map-set, same_lists}
-use Rattle.std.proofs.lemmas.Bool.{cases_eq, cases_lt, eq-eqb, ne_eqb}
-use Rattle.link_lists.specs.Lists.{Lists, list_at, home_at, list_count, id_count, ListBecomes, HomeBecomes, SameCounts, IsSound, has, Once, without}
-use Rattle.link_lists.proofs.Members.{has-both, not-has}
+use Rattle.std.specs.List.{filter, slice_get}
+use Rattle.std.proofs.lemmas.List.{get_or-set_same, get_or-set_other, length-set, length-map, map-append}
+use Rattle.std.proofs.lemmas.Bool.{cases_eq, eq-eqb, ne_eqb}
+use Rattle.link_lists.specs.Lists.{Lists, list_at, home_at, id_count, ListBecomes, HomeBecomes, SameCounts, IsSound, has}
+use Rattle.link_lists.proofs.Members.{has-both}
 use Rattle.thread_queues.specs.declared.event.Due.{Due}
-use Rattle.thread_queues.specs.declared.event.Event.{Event}
 use Rattle.thread_queues.specs.declared.event.Waiter.{Waiter}
 use Rattle.thread_queues.specs.Firsts.{due_at, IsFirst}
-use Rattle.thread_queues.specs.Placed.{times, without_first}
-use Rattle.thread_queues.specs.Slotted.{limit_in, Slotted, queue_at, threads_of, put_in, taken_from, IsApart, IsFirstOf}
-use Rattle.thread_queues.specs.Laid.{no_waiter, block_at, number_at, bucket_of, bucket_in, slotted, IsLaid}
-use Rattle.thread_queues.proofs.Ids.{times-has, has-times, map-same, filter-same, has-filter, filter-end, filter-without, without-none, without-first-map, find-map, get-has, has-get}
-use Rattle.thread_queues.proofs.Moving.{not-in, lists-set, block-same, block-other, number-kept, taken-lists, map-lists, same-at}
+use Rattle.thread_queues.specs.Placed.{times}
+use Rattle.thread_queues.specs.Slotted.{limit_in, queue_at, threads_of, put_in, IsApart, IsFirstOf}
+use Rattle.thread_queues.specs.Laid.{block_at, number_at, bucket_of, bucket_in, slotted, IsLaid}
+use Rattle.thread_queues.proofs.Ids.{times-has, has-times, map-same, filter-same, filter-end, get-has, has-get}
+use Rattle.thread_queues.proofs.Moving.{not-in, block-same, block-other, number-kept, map-lists, same-at}
 
 pub record IsPushed (old new : Lists) (l x : ℕ) : Type 0 where
   pub list : ListBecomes old new l (list_at old l ++ x ∷ [])

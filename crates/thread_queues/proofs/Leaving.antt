@@ -1,16 +1,16 @@
 -- The lists, blocks and limits stand for the threads, as a thread leaves a queue.
-use Rattle.std.proofs.Common.{◌≡◌, ◌≢◌, ◌∙◌, ℕ, zero, suc, ◌+◌, ◌<◌, ◌≤◌, ◌==◌, Bool, true, false, cond, List, [], ◌∷◌, ◌++◌, length, map, get_or, refl, ap, sym, subst, arith, ◌⊎◌, inl, inr, Option, Some, None, IsSome}
+use Rattle.std.proofs.Common.{◌≡◌, ◌∙◌, ℕ, ◌<◌, ◌==◌, true, false, List, [], length, map, get_or, refl, ap, sym, subst, arith, inl, inr, Option, Some, None, IsSome}
 use Rattle.std.proofs.Math.ListN.{set}
 use Rattle.std.specs.List.{filter, find}
-use Rattle.std.proofs.lemmas.List.{get_or-set_same, get_or-set_other, length-set, length-map, same_lists}
-use Rattle.std.proofs.lemmas.Bool.{cases_eq, cases_lt, eq-eqb, ne_eqb}
-use Rattle.link_lists.specs.Lists.{Lists, list_at, home_at, list_count, id_count, ListBecomes, HomeBecomes, SameCounts, IsSound, has, Once, without}
+use Rattle.std.proofs.lemmas.List.{get_or-set_same, get_or-set_other, length-set, length-map}
+use Rattle.std.proofs.lemmas.Bool.{cases_eq, eq-eqb, ne_eqb}
+use Rattle.link_lists.specs.Lists.{Lists, list_at, home_at, ListBecomes, HomeBecomes, SameCounts, IsSound, has, without}
 use Rattle.thread_queues.specs.declared.event.Due.{Due}
 use Rattle.thread_queues.specs.declared.event.Waiter.{Waiter}
 use Rattle.thread_queues.specs.Firsts.{due_at}
-use Rattle.thread_queues.specs.Placed.{times, without_first}
-use Rattle.thread_queues.specs.Slotted.{limit_in, Slotted, queue_at, threads_of, taken_from}
-use Rattle.thread_queues.specs.Laid.{no_waiter, block_at, number_at, bucket_of, slotted, IsLaid}
+use Rattle.thread_queues.specs.Placed.{without_first}
+use Rattle.thread_queues.specs.Slotted.{limit_in, queue_at, taken_from}
+use Rattle.thread_queues.specs.Laid.{block_at, number_at, bucket_of, slotted, IsLaid}
 use Rattle.thread_queues.proofs.Ids.{filter-without, without-first-map, find-map}
 use Rattle.thread_queues.proofs.Moving.{taken-lists, map-lists, same-at}
 

@@ -1,16 +1,15 @@
 -- The lists, blocks and limits stand for the threads, as a thread begins to live and ends.
-use Rattle.std.proofs.Common.{◌≡◌, ◌≢◌, ◌∙◌, ℕ, ◌+◌, ◌<◌, ◌≤◌, ◌==◌, Bool, true, false, List, [], ◌∷◌, ◌++◌, length, map, refl, ap, sym, subst, arith, inl, inr, Option, Some, None, IsSome}
+use Rattle.std.proofs.Common.{◌≡◌, ◌≢◌, ◌∙◌, ℕ, ◌<◌, ◌==◌, true, false, List, [], ◌∷◌, ◌++◌, length, map, refl, ap, sym, subst, arith, inl, inr, Option, Some, None}
 use Rattle.std.proofs.Math.ListN.{set}
-use Rattle.std.specs.List.{filter}
 use Rattle.std.proofs.lemmas.List.{length-set, length-map, map-append}
 use Rattle.std.proofs.lemmas.Bool.{cases_eq, eq-eqb, ne_eqb}
-use Rattle.link_lists.specs.Lists.{Lists, list_at, home_at, list_count, id_count, ListBecomes, HomeBecomes, SameCounts, IsSound, has, without}
+use Rattle.link_lists.specs.Lists.{Lists, list_at, home_at, SameCounts, has, without}
 use Rattle.link_lists.proofs.Members.{has-both}
 use Rattle.thread_queues.specs.declared.event.Due.{Due}
 use Rattle.thread_queues.specs.declared.event.Waiter.{Waiter}
 use Rattle.thread_queues.specs.Firsts.{due_at}
-use Rattle.thread_queues.specs.Placed.{times, without_first}
-use Rattle.thread_queues.specs.Slotted.{limit_in, Slotted, with_thread, without_thread}
+use Rattle.thread_queues.specs.Placed.{times}
+use Rattle.thread_queues.specs.Slotted.{limit_in, with_thread, without_thread}
 use Rattle.thread_queues.specs.Laid.{block_at, number_at, bucket_of, slotted, IsLaid}
 use Rattle.thread_queues.proofs.Ids.{map-same, filter-same, without-first-map, times-has}
 use Rattle.thread_queues.proofs.Moving.{not-in, block-same, block-other, same-at, map-lists}

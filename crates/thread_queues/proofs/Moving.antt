@@ -1,16 +1,11 @@
 -- One id moves: what that makes of the lists, and of what is kept for each id.
-use Rattle.std.proofs.Common.{◌≡◌, ◌≢◌, ◌∙◌, ℕ, zero, suc, ◌+◌, ◌<◌, ◌≤◌, ◌==◌, Bool, true, false, cond, List, [], ◌∷◌, ◌++◌, length, map, get_or, refl, ap, sym, subst, arith, ◌⊎◌, inl, inr, Option, Some, None, IsSome}
+use Rattle.std.proofs.Common.{◌≡◌, ◌≢◌, ◌∙◌, ℕ, ◌<◌, false, List, [], length, map, get_or, ap, sym, subst, arith, inl, inr, Option, Some, None}
 use Rattle.std.proofs.Math.ListN.{set, get_or-map}
-use Rattle.std.specs.List.{filter, find}
-use Rattle.std.proofs.lemmas.List.{get_or-set_same, get_or-set_other, length-set, length-map, map-append, same_lists, get_or_past, get_or_default}
-use Rattle.std.proofs.lemmas.Bool.{cases_eq, cases_lt}
-use Rattle.std.proofs.lemmas.Bool.Decides.{eqb_tells}
-use Rattle.link_lists.specs.Lists.{Lists, list_at, home_at, list_count, id_count, ListBecomes, HomeBecomes, SameCounts, IsSound, has, Once, without}
-use Rattle.link_lists.proofs.Members.{has-both, not-has}
-use Rattle.thread_queues.specs.declared.event.Due.{Due}
+use Rattle.std.proofs.lemmas.List.{get_or-set_same, get_or-set_other, same_lists, get_or_default}
+use Rattle.std.proofs.lemmas.Bool.{cases_eq}
+use Rattle.link_lists.specs.Lists.{Lists, list_at, home_at, ListBecomes, IsSound, has, without}
+use Rattle.link_lists.proofs.Members.{not-has}
 use Rattle.thread_queues.specs.declared.event.Waiter.{Waiter}
-use Rattle.thread_queues.specs.Firsts.{due_at}
-use Rattle.thread_queues.specs.Placed.{times, without_first}
 use Rattle.thread_queues.specs.Laid.{no_waiter, block_at, number_at}
 use Rattle.thread_queues.proofs.Ids.{without-none}
 
@@ -20,17 +15,6 @@ none-some o a e f = cc
 -- an id of no list is in none, and one of another list is not in this
 pub not-in : (v : Lists) → IsSound v → (x l : ℕ) → (home_at v x ≡ Some l → ⊥) → has x (list_at v l) ≡ false
 not-in v sound x l never = not-has x (list_at v l) (λ h. never ((sound.home l x).1 h))
-
--- lists of lists of which one changes
-pub lists-set : (old new : Lists) (l : ℕ) (ids : List ℕ) → ListBecomes old new l ids → SameCounts old new → l < list_count old → new.lists ≡ set old.lists l ids
-lists-set old new l ids becomes counts lt = same_lists new.lists (set old.lists l ids) (counts.lists ∙ sym (length-set old.lists l ids)) (λ k d h.
-    get_or_default new.lists k d [] h ∙ at k ∙ sym (get_or_default (set old.lists l ids) k d [] (omega (arith, h, counts.lists, length-set old.lists l ids))))
-  where
-    at : (k : ℕ) → get_or new.lists k [] ≡ get_or (set old.lists l ids) k []
-    at k = elim (cases_eq k l) [
-      | inl e ↦ subst (λ (j : ℕ). get_or new.lists j [] ≡ get_or (set old.lists l ids) j []) (sym e) (becomes.this ∙ sym (get_or-set_same old.lists l ids [] lt))
-      | inr ne ↦ becomes.others k ne ∙ sym (get_or-set_other old.lists l k ids [] ne)
-    ]
 
 -- the blocks of which one is written
 pub block-same : (bs : List Waiter) (x : ℕ) (w : Waiter) → x < length bs → block_at (set bs x w) x ≡ w

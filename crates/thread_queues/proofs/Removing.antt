@@ -1,25 +1,14 @@
 -- The first item that passes a test: found, and taken out.
-use Rattle.std.proofs.Common.{◌≡◌, ℕ, zero, suc, ◌+◌, ◌<◌, ◌≤◌, List, [], ◌∷◌, length, map, get_or, Bool, ◌==◌, true, false, cond, not, refl, ap, sym, ◌∙◌, arith, Option, Some, None}
-use Rattle.std.specs.List.{slice_get, find, remove, position_or_len}
-use Rattle.thread_queues.specs.declared.event.Waiter.{Waiter}
-use Rattle.thread_queues.specs.declared.event.Sleeper.{Sleeper}
-use Rattle.thread_queues.specs.Placed.{Placed, without_first, readied, woken_at, woken_waiter, roused_at, roused, woken_still}
+use Rattle.std.proofs.Common.{◌≡◌, ℕ, zero, suc, ◌+◌, ◌<◌, List, [], ◌∷◌, length, map, get_or, Bool, ◌==◌, true, false, cond, not, refl, ap, ◌∙◌, arith}
+use Rattle.std.specs.List.{remove, position_or_len}
+use Rattle.thread_queues.specs.Placed.{Placed, without_first}
 use Rattle.thread_queues.specs.Placed.{times}
 use Rattle.thread_queues.specs.Kept.{all_places, IsCounted}
-use Rattle.std.specs.List.{flat_map}
-use Rattle.std.proofs.Common.{option_to_list, inl, inr, ◌⊎◌}
+use Rattle.std.proofs.Common.{inl, inr, ◌⊎◌}
 use Rattle.std.proofs.lemmas.List.{map-id}
 use Rattle.std.proofs.lemmas.List.Sums.{passes_at_first}
 use Rattle.std.proofs.lemmas.Bool.{cases_eq, eq-eqb, ne_eqb, eqb-true}
 use Rattle.thread_queues.proofs.Counting.{Additive, Additive-times, Additive-length}
-
-find-step : {X : Type 0} (b : Bool) (x : X) (xs : List X) (n : ℕ) (o : Option X) → o ≡ slice_get xs n → cond b (Some x) o ≡ slice_get (x ∷ xs) (cond (not b) (1 + n) 0)
-find-step true x xs n o e = refl
-find-step false x xs n o e = let s : suc n ≡ 1 + n = omega arith in e ∙ ap (slice_get (x ∷ xs)) s
-
-pub find-position : {X : Type 0} (p : X → Bool) (xs : List X) → find p xs ≡ slice_get xs (position_or_len p xs)
-find-position p [] = refl
-find-position p (x ∷ xs) = find-step (p x) x xs (position_or_len p xs) (find p xs) (find-position p xs)
 
 without-step : {X : Type 0} (b : Bool) (x : X) (xs : List X) (n : ℕ) (ws : List X) → ws ≡ remove xs n → cond b xs (x ∷ ws) ≡ remove (x ∷ xs) (cond (not b) (1 + n) 0)
 without-step true x xs n ws e = refl
@@ -36,33 +25,6 @@ mapped-remove f a g (x ∷ xs) (suc i) d h =
     let e : f (g x ∷ map g xs) ≡ f (g x ∷ []) + f (map g xs) = a.app (g x ∷ []) (map g xs) in
     let r : f (g x ∷ map g (remove xs i)) ≡ f (g x ∷ []) + f (map g (remove xs i)) = a.app (g x ∷ []) (map g (remove xs i)) in
     omega (arith, e, r, mapped-remove f a g xs i d (omega arith))
-
-pub slice_get-read : {X : Type 0} (xs : List X) (i : ℕ) (x : X) → i < length xs → x ≡ get_or xs i x → slice_get xs i ≡ Some x
-slice_get-read [] i x h e = absurd (omega arith)
-slice_get-read (y ∷ xs) zero x h e = ap Some (sym e)
-slice_get-read (y ∷ xs) (suc i) x h e = slice_get-read xs i x (omega arith) e
-
-pub slice_get-past : {X : Type 0} (xs : List X) (i : ℕ) → length xs ≤ i → slice_get xs i ≡ None
-slice_get-past [] i h = refl
-slice_get-past (y ∷ xs) zero h = absurd (omega arith)
-slice_get-past (y ∷ xs) (suc i) h = slice_get-past xs i (omega arith)
-
-pub woken_at-waiter : (p : Placed) (i : ℕ) (test : Waiter → Bool) (o : Option Waiter) → without_first test p.waits ≡ remove p.waits i → woken_at p i o ≡ woken_waiter p test o
-woken_at-waiter p i test None e = refl
-woken_at-waiter p i test (Some w) e = ap (λ (ws : List Waiter). readied (record p { waits = ws }) w.class w.thread) (sym e)
-
-pub roused_at-sleeper : (p : Placed) (i : ℕ) (test : Sleeper → Bool) (o : Option Sleeper) → without_first test p.sleeps ≡ remove p.sleeps i → roused_at p i o ≡ roused p test o
-roused_at-sleeper p i test None e = refl
-roused_at-sleeper p i test (Some s) e = ap (λ (ss : List Sleeper). readied (record p { sleeps = ss }) s.class s.thread) (sym e)
-
-pub still-waiter : (p : Placed) (t : ℕ) (o : Option Waiter) → (o ≡ None → ⊥) → woken_waiter p (λ x. x.thread == t) o ≡ woken_still p t o
-still-waiter p t None some = absurd (some refl)
-still-waiter p t (Some w) some = refl
-
-pub some_at : {X : Type 0} (xs : List X) (i : ℕ) → i < length xs → slice_get xs i ≡ None → ⊥
-some_at [] i h e = absurd (omega arith)
-some_at (x ∷ xs) zero h e = cc
-some_at (x ∷ xs) (suc i) h e = some_at xs i (omega arith) e
 
 pub removed : (f : List ℕ → ℕ) → Additive f → (xs : List ℕ) (i d : ℕ) → i < length xs → f (remove xs i) + f (get_or xs i d ∷ []) ≡ f xs
 removed f a xs i d h = omega (arith, mapped-remove f a (λ x. x) xs i d h, ap f (map-id (remove xs i)), ap f (map-id xs))
@@ -92,10 +54,6 @@ counted-end p q t i c h at live run cpu same = record {
 
 times-self : (t : ℕ) → times t (t ∷ []) ≡ 1
 times-self t = let e = eq-eqb t t refl in omega (arith, ap {B = ℕ} (λ (b : Bool). cond b 1 0) e)
-
--- a thread that a processor runs is live
-pub live-runs : (p : Placed) (t rest : ℕ) → IsCounted p → rest + times t (t ∷ []) ≡ times t (flat_map option_to_list p.running) → 0 < times t p.live
-live-runs p t rest c e = omega (arith, c.placed t, e, times-self t)
 
 pub eqb-at : (xs : List ℕ) (t : ℕ) → position_or_len (λ x. x == t) xs < length xs → get_or xs (position_or_len (λ x. x == t) xs) t ≡ t
 eqb-at xs t h = eqb-true _ _ (passes_at_first (λ x. x == t) xs t h)

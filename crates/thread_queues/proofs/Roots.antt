@@ -1,12 +1,12 @@
 -- What the root of a tree of limits knows is the first of them all.
-use Rattle.std.proofs.Common.{◌≡◌, ◌≢◌, ◌∙◌, ℕ, zero, suc, ◌+◌, ◌*◌, ◌-◌, ◌/◌, ◌<◌, ◌≤◌, ◌==◌, nat_lt, Bool, true, false, cond, ◌||◌, ◌&&◌, List, length, map, get_or, refl, ap, sym, subst, arith, ◌⊎◌, inl, inr, Option, Some, None}
+use Rattle.std.proofs.Common.{◌≡◌, ◌∙◌, ℕ, zero, suc, ◌+◌, ◌*◌, ◌-◌, ◌/◌, ◌<◌, ◌≤◌, Bool, true, false, cond, List, length, map, refl, ap, sym, subst, arith, ◌⊎◌, inl, inr, Option, Some, None}
 use Rattle.std.proofs.Math.ListN.{get_or-map}
 use Rattle.std.proofs.lemmas.List.{get_or_past}
 use Rattle.std.proofs.lemmas.Bool.{cases_eq, cases_lt}
 use Rattle.std.proofs.lemmas.Bool.Decides.{nat_tests}
 use Rattle.thread_queues.specs.declared.event.Due.{Due}
 use Rattle.thread_queues.specs.declared.limits.Node.{Node}
-use Rattle.thread_queues.specs.Ticks.{earlier, is_before}
+use Rattle.thread_queues.specs.Ticks.{is_before}
 use Rattle.thread_queues.specs.Firsts.{least, due_at, IsBehind, IsFirst}
 use Rattle.thread_queues.specs.Tree.{no_node, own_at, first_at, first_below, IsTree}
 

@@ -1,13 +1,11 @@
 -- A tree of limits: one place changes, one is added, and what the root knows.
-use Rattle.std.proofs.Common.{◌≡◌, ◌≢◌, ◌∙◌, ℕ, zero, suc, ◌+◌, ◌*◌, ◌-◌, ◌/◌, ◌<◌, ◌≤◌, ◌==◌, Bool, true, false, cond, List, [], ◌∷◌, ◌++◌, length, map, get_or, refl, ap, sym, subst, arith, ◌⊎◌, inl, inr, Option, Some, None}
+use Rattle.std.proofs.Common.{◌≡◌, ◌≢◌, ◌∙◌, ℕ, zero, suc, ◌+◌, ◌*◌, ◌/◌, ◌<◌, ◌≤◌, List, [], ◌∷◌, ◌++◌, length, get_or, refl, ap, sym, subst, arith, inl, inr, Option, None}
 use Rattle.std.proofs.Math.ListN.{set}
-use Rattle.std.proofs.lemmas.List.{get_or-set_same, get_or-set_other, length-set, map-set, get_or_past}
+use Rattle.std.proofs.lemmas.List.{get_or-set_same, get_or-set_other, length-set, get_or_past}
 use Rattle.std.proofs.lemmas.Bool.{cases_eq, cases_lt}
-use Rattle.std.proofs.lemmas.Bool.Decides.{nat_tests}
 use Rattle.thread_queues.specs.declared.event.Due.{Due}
 use Rattle.thread_queues.specs.declared.limits.Node.{Node}
-use Rattle.thread_queues.specs.Ticks.{earlier, is_before}
-use Rattle.thread_queues.specs.Firsts.{least, due_at, IsBehind, IsFirst}
+use Rattle.thread_queues.specs.Firsts.{least}
 use Rattle.thread_queues.specs.Tree.{no_node, own_at, first_at, first_below, IsTree}
 
 first-same : (ns : List Node) (k : ℕ) (n : Node) → k < length ns → first_at (set ns k n) k ≡ n.first

@@ -1,13 +1,12 @@
 -- A thread that waits or sleeps gets ready.
-use Rattle.std.proofs.Common.{◌≡◌, ◌∙◌, ℕ, ◌+◌, ◌<◌, ◌≤◌, ◌==◌, Bool, true, false, cond, List, [], ◌∷◌, ◌++◌, length, map, refl, ap, sym, subst, arith, is_some, IsSome, IsNone, Option, Some, None, option_map}
+use Rattle.std.proofs.Common.{◌≡◌, ◌∙◌, ℕ, ◌<◌, ◌≤◌, ◌==◌, Bool, true, false, cond, List, [], ◌∷◌, length, map, refl, ap, sym, subst, arith, is_some, IsSome, Option, Some, None, option_map}
 use Rattle.std.specs.List.{find}
 use Rattle.std.proofs.lemmas.List.{length-set}
 use Rattle.std.proofs.lemmas.Bool.{eq-eqb, ne_eqb}
 use Rattle.thread_queues.specs.declared.event.Event.{Event}
 use Rattle.thread_queues.specs.declared.event.Waiter.{Waiter}
-use Rattle.thread_queues.specs.declared.event.Sleeper.{Sleeper}
 use Rattle.thread_queues.specs.Events.{is_event}
-use Rattle.thread_queues.specs.Placed.{Placed, times, without_first, readied, first_waiter, woken_one, woken_waiter, woken_still, roused, waiter_of, sleeper_of}
+use Rattle.thread_queues.specs.Placed.{Placed, times, without_first, readied, first_waiter, woken_one, woken_waiter, woken_still, roused, waiter_of}
 use Rattle.thread_queues.specs.Slotted.{Slotted, queue_at, threads_of, put_in, taken_from, IsApart}
 use Rattle.thread_queues.specs.Shown.{shown, sleeper, class_queue}
 use Rattle.thread_queues.specs.Kept.{IsCounted}
@@ -135,10 +134,6 @@ by-number {X} g test (y ∷ ys) x e few = by-test (test y) refl (by-number g tes
         let r = rest later less in
         (ap (λ (b : Bool). cond b (Some y) (find (λ z. g z == g x) ys)) apart ∙ r.0,
         ap (λ (b : Bool). cond b ys (y ∷ without_first (λ z. g z == g x) ys)) apart ∙ ap (λ (zs : List X). y ∷ zs) r.1 ∙ sym (ap (λ (b : Bool). cond b ys (y ∷ without_first test ys)) h))
-
-pub no-waiter : (o : Option Waiter) → None ≡ option_map (λ w. w.thread) o → o ≡ None
-no-waiter None h = refl
-no-waiter (Some w) h = cc
 
 -- the thread that waits longest for an event, woken by its number
 pub first-woken : (p : Placed) (event : Event) (t : ℕ) → IsCounted p → Some t ≡ option_map (λ w. w.thread) (first_waiter p event)

@@ -1,20 +1,16 @@
 -- Along a list of ids, from one on.
-use Rattle.std.proofs.Common.{◌≡◌, ◌∙◌, ℕ, suc, ◌+◌, ◌<◌, ◌==◌, Bool, true, false, cond, List, [], ◌∷◌, ◌++◌, length, map, refl, ap, sym, subst, arith, inl, inr, append_assoc, Option, Some, None}
+use Rattle.std.proofs.Common.{◌≡◌, ◌∙◌, ℕ, ◌<◌, ◌==◌, Bool, true, false, cond, List, [], ◌∷◌, ◌++◌, length, map, refl, ap, sym, subst, arith, inl, inr, append_assoc, Option, Some, None}
 use Rattle.std.specs.List.{find}
 use Rattle.std.proofs.lemmas.Bool.Decides.{eqb_tells}
 use Rattle.link_lists.specs.Lists.{has, Once, first_of, behind}
 use Rattle.link_lists.proofs.Calls.{behind-parts}
-use Rattle.link_lists.proofs.Members.{has-first, has-later, has-cons, has-both, has-left, not-has, same_test, parts-at, once-middle}
+use Rattle.link_lists.proofs.Members.{has-first, has-later, has-both, has-left, not-has, same_test, parts-at, once-middle}
 
 -- the ids from this one on; none from none on
 abbrev pub from : Option ℕ → List ℕ → List ℕ
 from None xs = []
 from (Some x) [] = []
 from (Some x) (y ∷ ys) = cond (y == x) (y ∷ ys) (from (Some x) ys)
-
-pub front-from : (xs : List ℕ) → from (first_of xs) xs ≡ xs
-front-from [] = refl
-front-from (y ∷ ys) = ap (λ (b : Bool). cond b (y ∷ ys) (from (Some y) ys)) (same_test y)
 
 from-parts : (x : ℕ) (ys zs : List ℕ) → has x ys ≡ false → from (Some x) (ys ++ x ∷ zs) ≡ x ∷ zs
 from-parts x [] zs h = ap (λ (b : Bool). cond b (x ∷ zs) (from (Some x) zs)) (same_test x)
@@ -72,10 +68,6 @@ walked xs o id once is at =
     let member = from-has id xs (sym is ∙ at ∙ ap (λ (p : Option ℕ). first_of (from p xs)) is) in
     let s = step id xs once member in
     record { has = member; rest = s.rest; here = ap (λ (p : Option ℕ). from p xs) is ∙ s.here; next = s.next; at = s.at ∙ ap first_of (sym s.next) }
-
--- where a walk begins
-pub begun : (xs : List ℕ) (o : Option ℕ) → o ≡ first_of xs → from o xs ≡ xs
-begun xs o e = ap (λ (p : Option ℕ). from p xs) e ∙ front-from xs
 
 pub walk-map : {X : Type 0} (f : ℕ → X) (xs : List ℕ) (o : Option ℕ) (id : ℕ) → IsWalked o id xs → map f (from o xs) ≡ f id ∷ map f (from (behind id xs) xs)
 walk-map {X} f xs o id w = ap (map f) w.here ∙ ap (λ (ys : List ℕ). f id ∷ map f ys) (sym w.next)

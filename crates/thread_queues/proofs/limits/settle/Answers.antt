@@ -1,4 +1,4 @@
-use Rattle.std.proofs.Common.{◌∙◌, ◌-◌, ◌/◌, length, map, sym, subst, refl, arith, Option}
+use Rattle.std.proofs.Common.{◌∙◌, ◌-◌, ◌/◌, sym, subst, refl, arith, Option}
 use Rattle.std.proofs.Math.ListN.{set}
 use Rattle.std.proofs.Math.Seq.{map-set_same}
 use Rattle.std.proofs.lemmas.List.{map-set, length-set}

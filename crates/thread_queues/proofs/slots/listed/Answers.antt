@@ -1,11 +1,8 @@
-use Rattle.std.proofs.Common.{◌≡◌, ◌∙◌, ◌++◌, ◌∷◌, [], ℕ, List, Option, Some, IsSome, length, map, refl, ap, sym, subst, append_assoc, option_map, arith}
-use Rattle.std.specs.List.{find}
-use Rattle.std.proofs.lemmas.List.{get_or_default}
-use Rattle.link_lists.specs.Lists.{list_at, first_of, behind}
+use Rattle.std.proofs.Common.{◌∙◌, ◌++◌, ◌∷◌, [], ℕ, List, Option, IsSome, length, map, refl, ap, sym, subst, append_assoc, arith}
+use Rattle.link_lists.specs.Lists.{list_at, first_of}
 use Rattle.thread_queues.specs.declared.event.Waiter.{Waiter}
-use Rattle.thread_queues.specs.Events.{is_event}
-use Rattle.thread_queues.specs.Laid.{no_waiter, block_at}
-use Rattle.thread_queues.proofs.Walking.{from, walked, walk-map, walk-found, walk-passed, walk-shorter}
+use Rattle.thread_queues.specs.Laid.{block_at}
+use Rattle.thread_queues.proofs.Walking.{from, walked, walk-map, walk-shorter}
 use Rattle.thread_queues.proofs.slots.listed.Goals as goal
 
 pub bounds-blocks-id : goal.bounds-blocks-id

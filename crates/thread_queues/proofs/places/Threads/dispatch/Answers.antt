@@ -4,7 +4,7 @@ use Rattle.std.specs.List.{slice_get}
 use Rattle.std.proofs.lemmas.List.{length-set}
 use Rattle.thread_queues.specs.Placed.{Placed, queue, with_queue, running_at}
 use Rattle.thread_queues.specs.Slotted.{Slotted, threads_of, queue_at, popped_from}
-use Rattle.thread_queues.specs.Shown.{shown, class_queue, ready_of}
+use Rattle.thread_queues.specs.Shown.{shown, ready_of}
 use Rattle.thread_queues.specs.Kept.{placed_of, IsCounted}
 use Rattle.thread_queues.proofs.Counted.{counted-dispatched}
 use Rattle.thread_queues.proofs.Placing.{pop-shown, head-shown}

@@ -1,4 +1,4 @@
-use Rattle.std.proofs.Common.{◌≡◌, ◌+◌, ◌∙◌, ℕ, Option, None, List, length, map, replicate, refl, ap, arith}
+use Rattle.std.proofs.Common.{◌≡◌, ◌+◌, ◌∙◌, ℕ, Option, None, length, map, replicate, ap, arith}
 use Rattle.thread_queues.specs.Slotted.{Slotted}
 use Rattle.thread_queues.specs.Shown.{sleeper, ready_of}
 use Rattle.thread_queues.specs.Slotted.{queue_at}

@@ -1,4 +1,4 @@
-use Rattle.std.proofs.Common.{◌≡◌, ◌==◌, ◌<◌, ◌∙◌, ◌↔◌, ℕ, List, IsTrue, map, ap, sym, subst, is_some}
+use Rattle.std.proofs.Common.{◌<◌, ◌∙◌, ◌↔◌, ℕ, List, IsTrue, map, ap, sym, subst, is_some}
 use Rattle.thread_queues.specs.declared.event.Sleeper.{Sleeper}
 use Rattle.thread_queues.specs.Placed.{Placed, times, sleeper_of}
 use Rattle.thread_queues.specs.Slotted.{queue_at}

@@ -1,4 +1,4 @@
-use Rattle.std.proofs.Common.{◌≡◌, ◌<◌, ◌++◌, ◌∷◌, ◌∙◌, [], ℕ, length, length-append, sym, ap, subst, arith}
+use Rattle.std.proofs.Common.{◌≡◌, ◌<◌, ◌++◌, ◌∷◌, ◌∙◌, [], ℕ, length, sym, ap, subst}
 use Rattle.std.proofs.lemmas.List.{length-set}
 use Rattle.thread_queues.specs.Placed.{Placed, times, readied, spawned}
 use Rattle.thread_queues.specs.Slotted.{Slotted, with_thread, put_in, IsApart}

@@ -1,18 +1,15 @@
-use Rattle.std.proofs.Common.{◌≡◌, ◌<◌, ◌==◌, ◌++◌, ◌∷◌, ◌∙◌, [], ℕ, List, Option, Some, None, IsSome, length, map, unwrap_or, refl, sym, ap, subst, arith}
+use Rattle.std.proofs.Common.{◌≡◌, ◌++◌, ◌∷◌, ◌∙◌, [], ℕ, Option, Some, None, IsSome, length, unwrap_or, refl, sym, ap, subst}
 use Rattle.std.proofs.Math.ListN.{set}
 use Rattle.std.proofs.lemmas.List.{get_or_default, length-set}
 use Rattle.ids_base.specs.declared.class.Class.{Class}
 use Rattle.ids_base.specs.Classes.{class_of}
-use Rattle.thread_queues.specs.declared.event.Event.TheVariants.{Lock}
-use Rattle.thread_queues.specs.declared.event.Waiter.{Waiter}
-use Rattle.thread_queues.specs.declared.event.Sleeper.{Sleeper}
-use Rattle.thread_queues.specs.Placed.{Placed, running_at, stopped, readied, yielded, waiting, sleeping, ended, without_first}
-use Rattle.thread_queues.specs.Slotted.{Slotted, queue_at, put_in}
-use Rattle.thread_queues.specs.Shown.{shown, sleeper, class_queue}
+use Rattle.thread_queues.specs.Placed.{Placed, running_at, stopped, waiting}
+use Rattle.thread_queues.specs.Slotted.{Slotted}
+use Rattle.thread_queues.specs.Shown.{shown}
 use Rattle.thread_queues.specs.Kept.{placed_of, IsCounted}
 use Rattle.thread_queues.proofs.Counting.{runs_lt}
-use Rattle.thread_queues.proofs.Counted.{runs-live, counted-yielded, counted-waits, counted-sleeps, counted-ended}
-use Rattle.thread_queues.proofs.Placing.{ready-shown, wait-shown, sleep-shown, apart-six}
+use Rattle.thread_queues.proofs.Counted.{runs-live, counted-waits}
+use Rattle.thread_queues.proofs.Placing.{wait-shown, apart-six}
 use Rattle.thread_queues.proofs.places.Threads.wait.Goals as goal
 
 pub put-requires-clause-lives : goal.put-requires-clause-lives

@@ -1,4 +1,4 @@
-use Rattle.std.proofs.Common.{◌≡◌, ◌∙◌, sym, ap, refl, subst, IsNone, Option}
+use Rattle.std.proofs.Common.{◌∙◌, sym, ap, refl, subst, IsNone, Option}
 use Rattle.thread_queues.specs.declared.event.Waiter.{Waiter}
 use Rattle.thread_queues.specs.Placed.{waiter_of, woken_still}
 use Rattle.thread_queues.proofs.Waking.{told-some, told-none, woken-waits}

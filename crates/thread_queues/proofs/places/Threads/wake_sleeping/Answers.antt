@@ -1,11 +1,10 @@
-use Rattle.std.proofs.Common.{◌≡◌, ◌==◌, ◌<◌, ◌∙◌, ℕ, length, IsSome, option_map, sym, ap, subst}
+use Rattle.std.proofs.Common.{◌==◌, ◌<◌, ◌∙◌, length, IsSome, option_map, sym, ap, subst}
 use Rattle.std.proofs.lemmas.List.{length-set}
-use Rattle.thread_queues.specs.declared.event.Sleeper.{Sleeper}
-use Rattle.thread_queues.specs.Placed.{Placed, times, waiter_of, sleeper_of, woken_waiter, roused}
+use Rattle.thread_queues.specs.Placed.{Placed, times, sleeper_of, roused}
 use Rattle.thread_queues.specs.Slotted.{Slotted, queue_at, put_in, taken_from, IsApart}
 use Rattle.thread_queues.specs.Shown.{shown, sleeper}
 use Rattle.thread_queues.specs.Kept.{placed_of, IsCounted}
-use Rattle.thread_queues.proofs.Waking.{found-times, find-sleeper, sleeps-counted, sleeps-out, sleeps-ready, sleeps-kept}
+use Rattle.thread_queues.proofs.Waking.{find-sleeper, sleeps-counted, sleeps-out, sleeps-ready, sleeps-kept}
 use Rattle.thread_queues.proofs.places.Threads.wake_sleeping.Goals as goal
 
 pub take-waiter-requires : goal.take-waiter-requires

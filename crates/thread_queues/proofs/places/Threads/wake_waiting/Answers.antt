@@ -1,11 +1,10 @@
-use Rattle.std.proofs.Common.{◌≡◌, ◌==◌, ◌<◌, ◌∙◌, ℕ, length, IsSome, sym, ap, subst}
+use Rattle.std.proofs.Common.{◌==◌, ◌<◌, ◌∙◌, length, IsSome, sym, ap, subst}
 use Rattle.std.proofs.lemmas.List.{length-set}
-use Rattle.thread_queues.specs.declared.event.Sleeper.{Sleeper}
-use Rattle.thread_queues.specs.Placed.{Placed, times, waiter_of, sleeper_of, woken_waiter, roused}
+use Rattle.thread_queues.specs.Placed.{Placed, times, waiter_of, woken_waiter}
 use Rattle.thread_queues.specs.Slotted.{Slotted, queue_at, put_in, taken_from, IsApart}
-use Rattle.thread_queues.specs.Shown.{shown, sleeper}
+use Rattle.thread_queues.specs.Shown.{shown}
 use Rattle.thread_queues.specs.Kept.{placed_of, IsCounted}
-use Rattle.thread_queues.proofs.Waking.{found-times, find-sleeper, sleeps-counted, waits-out, waits-ready, waits-counted}
+use Rattle.thread_queues.proofs.Waking.{found-times, waits-out, waits-ready, waits-counted}
 use Rattle.thread_queues.proofs.places.Threads.wake_waiting.Goals as goal
 
 pub take-waiter-requires : goal.take-waiter-requires

@@ -1,9 +1,9 @@
-use Rattle.std.proofs.Common.{◌≡◌, ◌<◌, ◌∙◌, ℕ, List, Option, Some, None, IsSome, nat_eq, refl, sym, ap, subst, arith}
+use Rattle.std.proofs.Common.{◌≡◌, ◌∙◌, ℕ, Option, None, IsSome, nat_eq, refl, sym, ap, subst, arith}
 use Rattle.std.specs.HashMap.{get}
 use Rattle.std.specs.Map.{lookup}
 use Rattle.std.proofs.lemmas.Bool.{ne_eqb}
 use Rattle.ids_base.specs.declared.class.Class.TheVariants.{Cpu}
-use Rattle.link_lists.specs.Lists.{list_at, id_count}
+use Rattle.link_lists.specs.Lists.{list_at}
 use Rattle.thread_queues.specs.declared.event.Event.TheVariants.{Lock}
 use Rattle.thread_queues.specs.Placed.{times}
 use Rattle.thread_queues.specs.Slotted.{Slotted, with_thread}

@@ -1,9 +1,8 @@
-use Rattle.std.proofs.Common.{◌≡◌, ◌≤◌, ◌+◌, ◌∙◌, ℕ, List, length, Option, nat_eq, sym, ap, arith}
+use Rattle.std.proofs.Common.{◌≡◌, ◌+◌, ◌∙◌, ℕ, List, length, Option, nat_eq, ap, arith}
 use Rattle.std.specs.HashMap.{get}
 use Rattle.link_lists.specs.Lists.{id_count}
 use Rattle.thread_queues.specs.declared.event.Due.{Due}
 use Rattle.thread_queues.specs.Firsts.{due_at}
-use Rattle.thread_queues.proofs.Laying.{IsPushed}
 use Rattle.thread_queues.proofs.Growing.{IsMore, HasSameLive, more-none, same-live, live-more, live-free, blocks-more, limits-more, grown-laid, grown-shown}
 use Rattle.thread_queues.proofs.slots.Slots.grow.Goals as goal
 

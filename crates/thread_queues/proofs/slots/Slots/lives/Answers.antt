@@ -1,4 +1,4 @@
-use Rattle.std.proofs.Common.{◌≡◌, ◌<◌, ◌∙◌, ℕ, Bor, Bool, true, false, IsTrue, Option, Some, None, nat_eq, is_some, refl, sym, ap, subst}
+use Rattle.std.proofs.Common.{◌≡◌, ◌<◌, ◌∙◌, ℕ, Bor, true, Option, Some, None, nat_eq, is_some, refl, sym, ap, subst}
 use Rattle.std.specs.Option.{option_copied}
 use Rattle.std.specs.HashMap.{get}
 use Rattle.thread_queues.specs.Placed.{times}

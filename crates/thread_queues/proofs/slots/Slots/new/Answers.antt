@@ -1,5 +1,3 @@
-use Rattle.std.proofs.Common.{◌≡◌, ◌∙◌, ℕ, List, [], map, ap, refl, replicate}
-use Rattle.thread_queues.specs.declared.event.Waiter.{Waiter}
 use Rattle.thread_queues.proofs.Growing.{none-shown}
 use Rattle.thread_queues.proofs.slots.Slots.new.Goals as goal
 
