@@ -1,16 +1,16 @@
 -- Each thread stays in one place, as one moves.
-use Rattle.std.proofs.Common.{◌≡◌, ◌∙◌, ℕ, ◌+◌, ◌<◌, ◌==◌, Bool, true, false, cond, List, [], ◌∷◌, ◌++◌, length, map, drop, refl, ap, sym, subst, arith, Option, Some, None, IsSome, option_to_list}
+use Rattle.std.proofs.Common.{◌≡◌, ◌∙◌, ℕ, ◌+◌, ◌<◌, ◌==◌, Bool, true, false, cond, List, [], ◌∷◌, ◌++◌, length, map, drop, refl, ap, sym, subst, arith, inl, inr, Option, Some, None, IsSome, option_to_list}
 use Rattle.std.proofs.Math.ListN.{set}
 use Rattle.std.specs.List.{flat_map, slice_get, find, position_or_len}
 use Rattle.std.proofs.lemmas.List.{length-set}
 use Rattle.std.proofs.lemmas.Bool.{eq-eqb, eqb-true}
+use Rattle.std.proofs.lemmas.Bool.Decides.{eqb_tells}
 use Rattle.ids_base.specs.declared.class.Class.{Class}
 use Rattle.thread_queues.specs.declared.event.Waiter.{Waiter}
 use Rattle.thread_queues.specs.declared.event.Sleeper.{Sleeper}
 use Rattle.thread_queues.specs.Placed.{Placed, queue, with_queue, times, without_first, running_at, stopped, readied}
 use Rattle.thread_queues.specs.Kept.{all_places, IsCounted}
-use Rattle.thread_queues.proofs.Counting.{Additive, Additive-times, in_queues, queues-parts, queues-push, queues-pop, running-set, mapped-push, runs_lt, counted-step, counted-spawn}
-use Rattle.thread_queues.proofs.Removing.{counted-end, eqb-at, position-lt, without-position}
+use Rattle.thread_queues.proofs.Counting.{Additive, Additive-times, Additive-length, in_queues, queues-parts, queues-push, queues-pop, running-set, mapped-push, runs_lt, counted-step, counted-spawn}
 
 readied-sum : (f : List ℕ → ℕ) → Additive f → (p : Placed) (class : Class) (t : ℕ) → all_places f (readied p class t) ≡ all_places f p + f (t ∷ [])
 readied-sum f ad p class t = omega (arith, queues-push f ad p.ready class t, queues-parts f p.ready, queues-parts f (with_queue p.ready class (queue p.ready class ++ t ∷ [])))
@@ -69,22 +69,38 @@ pub counted-roused : (p : Placed) (test : Sleeper → Bool) (s : Sleeper) (class
 counted-roused p test s class e c = counted-step p (readied (record p { sleeps = without_first test p.sleeps }) class s.thread) c refl refl refl
     (λ f ad. omega (arith, readied-sum f ad (record p { sleeps = without_first test p.sleeps }) class s.thread, first-out f ad (λ s. s.thread) test p.sleeps s e))
 
+-- a number that is counted is taken out once
+number-gone : (f : List ℕ → ℕ) → Additive f → (xs : List ℕ) (t : ℕ) → 0 < times t xs → f (without_first (λ x. x == t) xs) + f (t ∷ []) ≡ f xs
+number-gone f ad [] t h = absurd (omega arith)
+number-gone f ad (x ∷ xs) t h = elim (eqb_tells x t) [
+  | inl e ↦ let left : f (without_first (λ y. y == t) (x ∷ xs)) ≡ f xs = ap (λ (b : Bool). f (cond b xs (x ∷ without_first (λ y. y == t) xs))) e.0 in
+      omega (arith, left, ap (λ (n : ℕ). f (n ∷ [])) e.1, ad.app (x ∷ []) xs)
+  | inr ne ↦ let none : cond (x == t) 1 0 ≡ 0 = ap {B = ℕ} (λ (b : Bool). cond b 1 0) ne.0 in
+      let later = number-gone f ad xs t (omega (arith, h, none)) in
+      let left : f (without_first (λ y. y == t) (x ∷ xs)) ≡ f (x ∷ without_first (λ y. y == t) xs) = ap (λ (b : Bool). f (cond b xs (x ∷ without_first (λ y. y == t) xs))) ne.0 in
+      omega (arith, left, later, ad.app (x ∷ []) xs, ad.app (x ∷ []) (without_first (λ y. y == t) xs))
+]
+
 pub counted-ended : (p : Placed) (vp t : ℕ) → IsCounted p → running_at p vp ≡ Some t → 0 < times t p.live → IsCounted (record (stopped p vp) { live = without_first (λ x. x == t) p.live })
-counted-ended p vp t c e live =
-    let lt = position-lt t p.live live in
-    counted-end p (record (stopped p vp) { live = without_first (λ x. x == t) p.live }) t (position_or_len (λ x. x == t) p.live) c lt (eqb-at p.live t lt) (without-position (λ x. x == t) p.live) (length-set p.running vp None) refl (λ f ad. omega (arith, stopped-sum f ad p vp t e))
+counted-ended p vp t c e live = record {
+  once = λ n. omega (arith, c.once n, number-gone (times n) (Additive-times n) p.live t live);
+  placed = λ n. omega (arith, c.placed n, stopped-sum (times n) (Additive-times n) p vp t e, number-gone (times n) (Additive-times n) p.live t live);
+  size = omega (arith, c.size, stopped-sum length Additive-length p vp t e, number-gone length Additive-length p.live t live);
+  processors = length-set p.running vp None ∙ c.processors;
+}
+
+-- a number is counted once by itself
+pub self-once : (t : ℕ) → times t (t ∷ []) ≡ 1
+self-once t = let e = eq-eqb t t refl in omega (arith, ap {B = ℕ} (λ (b : Bool). cond b 1 0) e)
 
 -- a thread that a processor runs is live, and stands in no queue
 pub runs-live : (p : Placed) (vp t : ℕ) → IsCounted p → running_at p vp ≡ Some t → (0 < times t p.live) × (in_queues (times t) p.ready ≡ 0) × (times t (map (λ w. w.thread) p.waits) ≡ 0) × (times t (map (λ s. s.thread) p.sleeps) ≡ 0)
 runs-live p vp t c e =
     let stop = stopped-sum (times t) (Additive-times t) p vp t e in
-    let self : times t (t ∷ []) ≡ 1 = times-self t in
+    let self : times t (t ∷ []) ≡ 1 = self-once t in
     let one = c.once t in
     let all = c.placed t in
     (omega (arith, stop, self, one, all), omega (arith, stop, self, one, all, queues-parts (times t) p.ready), omega (arith, stop, self, one, all), omega (arith, stop, self, one, all))
-  where
-    times-self : (t : ℕ) → times t (t ∷ []) ≡ 1
-    times-self t = let e = eq-eqb t t refl in omega (arith, ap {B = ℕ} (λ (b : Bool). cond b 1 0) e)
 
 -- a thread that does not live stands in no queue
 pub absent : (p : Placed) (t : ℕ) → IsCounted p → times t p.live ≡ 0 → (in_queues (times t) p.ready ≡ 0) × (times t (map (λ w. w.thread) p.waits) ≡ 0) × (times t (map (λ s. s.thread) p.sleeps) ≡ 0)
@@ -101,9 +117,6 @@ find-passes {X} test (y ∷ ys) x e = by-test (test y) refl (find-passes test ys
     by-test : (b : Bool) → test y ≡ b → (find test ys ≡ Some x → test x ≡ true) → test x ≡ true
     by-test true h rest = ap test (sym (some-same (sym (ap (λ (b : Bool). cond b (Some y) (find test ys)) h) ∙ e))) ∙ h
     by-test false h rest = rest (sym (ap (λ (b : Bool). cond b (Some y) (find test ys)) h) ∙ e)
-
-pub self-once : (t : ℕ) → times t (t ∷ []) ≡ 1
-self-once t = let e = eq-eqb t t refl in omega (arith, ap {B = ℕ} (λ (b : Bool). cond b 1 0) e)
 
 -- the first with a number is taken out: it is counted once less
 pub number-out : {X : Type 0} (g : X → ℕ) (xs : List X) (t : ℕ) (x : X) → find (λ y. g y == t) xs ≡ Some x → (times t (map g (without_first (λ y. g y == t) xs)) + 1 ≡ times t (map g xs)) × (g x ≡ t)

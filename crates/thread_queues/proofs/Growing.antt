@@ -11,7 +11,7 @@ use Rattle.thread_queues.specs.Firsts.{due_at}
 use Rattle.thread_queues.specs.Slotted.{limit_in, nothing}
 use Rattle.thread_queues.specs.Laid.{no_waiter, block_at, number_at, bucket_of, slotted, IsLaid}
 use Rattle.thread_queues.proofs.Moving.{same-at}
-use Rattle.thread_queues.proofs.Laying.{IsPushed}
+use Rattle.thread_queues.proofs.Putting.{IsPushed}
 
 fun_ext : {A B : Type 0} {f g : A → B} → ((x : A) → f x ≡ g x) → f ≡ g
 fun_ext h = λ i x. h x i

@@ -9,7 +9,7 @@ pub mod Leaving
 pub mod Living
 pub mod Moving
 pub mod Placing
-pub mod Removing
+pub mod Putting
 pub mod Roots
 pub mod Telling
 pub mod Ticking

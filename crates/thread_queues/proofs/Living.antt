@@ -13,7 +13,7 @@ use Rattle.thread_queues.specs.Slotted.{limit_in, with_thread, without_thread}
 use Rattle.thread_queues.specs.Laid.{block_at, number_at, bucket_of, slotted, IsLaid}
 use Rattle.thread_queues.proofs.Ids.{map-same, filter-same, without-first-map, times-has}
 use Rattle.thread_queues.proofs.Moving.{not-in, block-same, block-other, same-at, map-lists}
-use Rattle.thread_queues.proofs.Laying.{IsPushed}
+use Rattle.thread_queues.proofs.Putting.{IsPushed}
 use Rattle.thread_queues.proofs.Leaving.{IsUnlinked}
 
 module _ (al qs bu : Lists) (bs : List Waiter) (li : List (Option Due)) (id_of : ℕ → Option ℕ) (laid : IsLaid al qs bu bs li id_of) (al1 al2 : Lists) (x : ℕ) where

@@ -5,7 +5,8 @@ use Rattle.thread_queues.specs.declared.event.Due.{Due}
 use Rattle.thread_queues.specs.Placed.{times}
 use Rattle.thread_queues.specs.Slotted.{Slotted, put_in, IsApart}
 use Rattle.thread_queues.specs.Laid.{IsLaid}
-use Rattle.thread_queues.proofs.Laying.{IsPushed, live-found, free-at, put-laid, put-shown}
+use Rattle.thread_queues.proofs.Laying.{live-found, free-at}
+use Rattle.thread_queues.proofs.Putting.{IsPushed, put-laid, put-shown}
 use Rattle.thread_queues.proofs.slots.Slots.put.Goals as goal
 
 none-some : {x : ℕ} → None ≡ Some x → ⊥
