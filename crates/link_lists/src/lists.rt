@@ -118,6 +118,7 @@ impl Lists {
         ensures list { ListBecomes self.old self.new list (id ∷ list_at self.old list) }
         ensures home { HomeBecomes self.old self.new id (Some list) }
         ensures counts { SameCounts self.old self.new }
+        ensures sound { IsSound self.new }
     {
         let first = self.web.next(HEAD + list);
         self.web.link_before(first, id, list);
@@ -131,6 +132,7 @@ impl Lists {
         ensures list { (l : ℕ) → home_at self.old next ≡ Some l → ListBecomes self.old self.new l (put_before next id (list_at self.old l)) }
         ensures home { HomeBecomes self.old self.new id (home_at self.old next) }
         ensures counts { SameCounts self.old self.new }
+        ensures sound { IsSound self.new }
     {
         match self.web.home(next) {
             Some(list) => self.web.link_before(next, id, list),
@@ -155,6 +157,7 @@ impl Lists {
         ensures list { (l : ℕ) → home_at self.old id ≡ Some l → ListBecomes self.old self.new l (without id (list_at self.old l) ++ id ∷ []) }
         ensures homes { (x : ℕ) → home_at self.new x ≡ home_at self.old x }
         ensures counts { SameCounts self.old self.new }
+        ensures sound { IsSound self.new }
     {
         match self.home(id) {
             Some(list) => {
