@@ -1,7 +1,7 @@
 -- Each thread stays in one place, as one moves.
 use Rattle.std.proofs.Common.{◌≡◌, ◌∙◌, ℕ, ◌+◌, ◌<◌, ◌==◌, Bool, true, false, cond, List, [], ◌∷◌, ◌++◌, length, map, drop, refl, ap, sym, subst, arith, inl, inr, Option, Some, None, IsSome, option_to_list}
 use Rattle.std.proofs.Math.ListN.{set}
-use Rattle.std.specs.List.{flat_map, slice_get, find, position_or_len}
+use Rattle.std.specs.List.{flat_map, slice_get, find}
 use Rattle.std.proofs.lemmas.List.{length-set}
 use Rattle.std.proofs.lemmas.Bool.{eq-eqb, eqb-true}
 use Rattle.std.proofs.lemmas.Bool.Decides.{eqb_tells}

@@ -1,19 +1,15 @@
 -- The lists, blocks and limits stand for the threads, as a thread goes into a queue and out of it.
-use Rattle.std.proofs.Common.{◌≡◌, ◌∙◌, ℕ, ◌<◌, ◌==◌, Bool, false, cond, List, [], ◌∷◌, ◌++◌, length, map, get_or, refl, ap, sym, subst, arith, inl, inr, Option, Some, None, IsSome}
-use Rattle.std.proofs.Math.ListN.{set}
-use Rattle.std.specs.List.{filter, slice_get}
-use Rattle.std.proofs.lemmas.List.{get_or-set_same, get_or-set_other, length-set, length-map, map-append}
-use Rattle.std.proofs.lemmas.Bool.{cases_eq, eq-eqb, ne_eqb}
-use Rattle.link_lists.specs.Lists.{Lists, list_at, home_at, id_count, ListBecomes, HomeBecomes, SameCounts, IsSound, has}
-use Rattle.link_lists.proofs.Members.{has-both}
+use Rattle.std.proofs.Common.{◌≡◌, ◌∙◌, ℕ, ◌<◌, List, [], ◌∷◌, length, map, refl, ap, sym, subst, arith, Option, Some, None, IsSome}
+use Rattle.std.specs.List.{slice_get}
+use Rattle.link_lists.specs.Lists.{Lists, list_at, home_at, id_count}
 use Rattle.thread_queues.specs.declared.event.Due.{Due}
 use Rattle.thread_queues.specs.declared.event.Waiter.{Waiter}
 use Rattle.thread_queues.specs.Firsts.{due_at, IsFirst}
 use Rattle.thread_queues.specs.Placed.{times}
-use Rattle.thread_queues.specs.Slotted.{limit_in, queue_at, threads_of, put_in, IsApart, IsFirstOf}
-use Rattle.thread_queues.specs.Laid.{block_at, number_at, bucket_of, bucket_in, slotted, IsLaid}
-use Rattle.thread_queues.proofs.Ids.{times-has, has-times, map-same, filter-same, filter-end, get-has, has-get}
-use Rattle.thread_queues.proofs.Moving.{not-in, block-same, block-other, number-kept, map-lists, same-at}
+use Rattle.thread_queues.specs.Slotted.{limit_in, queue_at, threads_of, IsApart, IsFirstOf}
+use Rattle.thread_queues.specs.Laid.{block_at, number_at, slotted, IsLaid}
+use Rattle.thread_queues.proofs.Ids.{times-has, has-times, get-has, has-get}
+use Rattle.thread_queues.proofs.Moving.{map-lists}
 
 module _ (al qs bu : Lists) (bs : List Waiter) (li : List (Option Due)) (id_of : ℕ → Option ℕ) (laid : IsLaid al qs bu bs li id_of) where
   some-same : (x l k : ℕ) → home_at qs x ≡ Some l → home_at qs x ≡ Some k → l ≡ k

@@ -1,18 +1,17 @@
 -- The lists, blocks and limits stand for the threads, as a thread goes into a queue.
 use Rattle.std.proofs.Common.{◌≡◌, ◌∙◌, ℕ, ◌<◌, ◌==◌, Bool, false, cond, List, [], ◌∷◌, ◌++◌, length, map, get_or, refl, ap, sym, subst, arith, inl, inr, Option, Some, None, IsSome}
 use Rattle.std.proofs.Math.ListN.{set}
-use Rattle.std.specs.List.{filter, slice_get}
+use Rattle.std.specs.List.{filter}
 use Rattle.std.proofs.lemmas.List.{get_or-set_same, get_or-set_other, length-set, length-map, map-append}
 use Rattle.std.proofs.lemmas.Bool.{cases_eq, eq-eqb, ne_eqb}
 use Rattle.link_lists.specs.Lists.{Lists, list_at, home_at, id_count, ListBecomes, HomeBecomes, SameCounts, IsSound, has}
 use Rattle.link_lists.proofs.Members.{has-both}
 use Rattle.thread_queues.specs.declared.event.Due.{Due}
 use Rattle.thread_queues.specs.declared.event.Waiter.{Waiter}
-use Rattle.thread_queues.specs.Firsts.{due_at, IsFirst}
-use Rattle.thread_queues.specs.Placed.{times}
-use Rattle.thread_queues.specs.Slotted.{limit_in, queue_at, threads_of, put_in, IsApart, IsFirstOf}
+use Rattle.thread_queues.specs.Firsts.{due_at}
+use Rattle.thread_queues.specs.Slotted.{limit_in, put_in}
 use Rattle.thread_queues.specs.Laid.{block_at, number_at, bucket_of, bucket_in, slotted, IsLaid}
-use Rattle.thread_queues.proofs.Ids.{times-has, has-times, map-same, filter-same, filter-end, get-has, has-get}
+use Rattle.thread_queues.proofs.Ids.{map-same, filter-same, filter-end}
 use Rattle.thread_queues.proofs.Moving.{not-in, block-same, block-other, number-kept, map-lists, same-at}
 use Rattle.thread_queues.proofs.Laying.{queue-is}
 
@@ -26,6 +25,7 @@ pub record IsPushed (old new : Lists) (l x : ℕ) : Type 0 where
 module _ (al qs bu : Lists) (bs : List Waiter) (li : List (Option Due)) (id_of : ℕ → Option ℕ) (laid : IsLaid al qs bu bs li id_of) where
   none-some : (o : Option ℕ) (l : ℕ) → o ≡ None → o ≡ Some l → ⊥
   none-some o l e f = cc
+
   -- a thread goes into a queue
   module _ (qs' bu' : Lists) (q x : ℕ) (w : Waiter) (lt : q < 6) (live : home_at al x ≡ Some 0) (number : number_at bs x ≡ w.thread) (free : home_at qs x ≡ None)
       (pushed : IsPushed qs qs' q x) (bucket : IsPushed bu bu' (bucket_in q w.event) x) where

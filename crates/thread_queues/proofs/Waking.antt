@@ -1,12 +1,12 @@
 -- A thread that waits or sleeps gets ready.
-use Rattle.std.proofs.Common.{◌≡◌, ◌∙◌, ℕ, ◌<◌, ◌≤◌, ◌==◌, Bool, true, false, cond, List, [], ◌∷◌, length, map, refl, ap, sym, subst, arith, is_some, IsSome, Option, Some, None, option_map}
+use Rattle.std.proofs.Common.{◌≡◌, ◌∙◌, ℕ, ◌<◌, ◌≤◌, ◌==◌, Bool, true, false, cond, List, [], ◌∷◌, length, map, refl, ap, sym, subst, arith, IsSome, Option, Some, None, option_map}
 use Rattle.std.specs.List.{find}
 use Rattle.std.proofs.lemmas.List.{length-set}
 use Rattle.std.proofs.lemmas.Bool.{eq-eqb, ne_eqb}
 use Rattle.thread_queues.specs.declared.event.Event.{Event}
 use Rattle.thread_queues.specs.declared.event.Waiter.{Waiter}
 use Rattle.thread_queues.specs.Events.{is_event}
-use Rattle.thread_queues.specs.Placed.{Placed, times, without_first, readied, first_waiter, woken_one, woken_waiter, woken_still, roused, waiter_of}
+use Rattle.thread_queues.specs.Placed.{Placed, times, without_first, readied, first_waiter, woken_one, woken_waiter, roused, waiter_of}
 use Rattle.thread_queues.specs.Slotted.{Slotted, queue_at, threads_of, put_in, taken_from, IsApart}
 use Rattle.thread_queues.specs.Shown.{shown, sleeper, class_queue}
 use Rattle.thread_queues.specs.Kept.{IsCounted}
@@ -20,14 +20,6 @@ some-of (Some x) h = (x, refl)
 
 pub is-some : {X : Type 0} (o : Option X) (x : X) → o ≡ Some x → IsSome o
 is-some {X = X} o x e = subst (λ (p : Option X). IsSome p) (sym e) refl
-
-pub told-some : {X : Type 0} (o : Option X) → is_some o ≡ true → IsSome o
-told-some None h = cc
-told-some (Some x) h = refl
-
-pub told-none : {X : Type 0} (o : Option X) → is_some o ≡ false → o ≡ None
-told-none None h = refl
-told-none (Some x) h = cc
 
 -- a number that is found is counted
 pub found-times : {X : Type 0} (g : X → ℕ) (xs : List X) (t : ℕ) → IsSome (find (λ y. g y == t) xs) → 0 < times t (map g xs)
@@ -49,7 +41,6 @@ find-sleeper t (w ∷ ws) = by-test (w.thread == t) (find-sleeper t ws)
 pub sleeps-counted : (t : ℕ) (ws : List Waiter) → IsSome (find (λ s. s.thread == t) (map sleeper ws)) → 0 < times t (threads_of ws)
 sleeps-counted t ws h = subst (λ (ts : List ℕ). 0 < times t ts) (sleepers-threads ws) (found-times (λ s. s.thread) (map sleeper ws) t h)
 
-
 module _ (cpu tick : ℕ) (s : Slotted) (run : List (Option ℕ)) (six : length s.queues ≡ 6) (counted : IsCounted (shown cpu tick s run)) (t : ℕ) (w : Waiter) where
   abbrev p : Placed
   p = shown cpu tick s run
@@ -65,9 +56,9 @@ module _ (cpu tick : ℕ) (s : Slotted) (run : List (Option ℕ)) (six : length 
     waits-out n same =
         let l = waits-live p t w counted e in
         let apart = apart-six (taken_from s 4 t) (out-six 4) t
-            (ap (λ (x : Placed). in_queues (times t) x.ready) taken-4 ∙ l.1)
-            (ap (λ (x : Placed). times t (map (λ y. y.thread) x.waits)) taken-4 ∙ l.2)
-            (ap (λ (x : Placed). times t (map (λ y. y.thread) x.sleeps)) taken-4 ∙ l.3) in
+        (ap (λ (x : Placed). in_queues (times t) x.ready) taken-4 ∙ l.1)
+        (ap (λ (x : Placed). times t (map (λ y. y.thread) x.waits)) taken-4 ∙ l.2)
+        (ap (λ (x : Placed). times t (map (λ y. y.thread) x.sleeps)) taken-4 ∙ l.3) in
         let is : t ≡ n = sym (same ∙ l.4) in
         (subst (λ (m : ℕ). 0 < times m s.live) is l.0, subst (λ (m : ℕ). IsApart (taken_from s 4 t) m) is apart)
 
@@ -92,9 +83,9 @@ module _ (cpu tick : ℕ) (s : Slotted) (run : List (Option ℕ)) (six : length 
     sleeps-out n same =
         let l = sleeps-live p t (sleeper w) counted sleeps-found in
         let apart = apart-six (taken_from s 5 t) (out-six 5) t
-            (ap (λ (x : Placed). in_queues (times t) x.ready) taken-5 ∙ l.1)
-            (ap (λ (x : Placed). times t (map (λ y. y.thread) x.waits)) taken-5 ∙ l.2)
-            (ap (λ (x : Placed). times t (map (λ y. y.thread) x.sleeps)) taken-5 ∙ l.3) in
+        (ap (λ (x : Placed). in_queues (times t) x.ready) taken-5 ∙ l.1)
+        (ap (λ (x : Placed). times t (map (λ y. y.thread) x.waits)) taken-5 ∙ l.2)
+        (ap (λ (x : Placed). times t (map (λ y. y.thread) x.sleeps)) taken-5 ∙ l.3) in
         let is : t ≡ n = sym (same ∙ l.4) in
         (subst (λ (m : ℕ). 0 < times m s.live) is l.0, subst (λ (m : ℕ). IsApart (taken_from s 5 t) m) is apart)
 
@@ -122,18 +113,20 @@ by-number {X} g test (y ∷ ys) x e few = by-test (test y) refl (by-number g tes
         → (find (λ z. g z == g x) (y ∷ ys) ≡ Some x) × (without_first (λ z. g z == g x) (y ∷ ys) ≡ without_first test (y ∷ ys))
     by-test true h rest =
         let same : y ≡ x = some-same (sym (ap (λ (b : Bool). cond b (Some y) (find test ys)) h) ∙ e) in
-        let is : (g y == g x) ≡ true = eq-eqb (g y) (g x) (ap g same) in
-        (ap (λ (b : Bool). cond b (Some y) (find (λ z. g z == g x) ys)) is ∙ ap Some same,
-        ap (λ (b : Bool). cond b ys (y ∷ without_first (λ z. g z == g x) ys)) is ∙ sym (ap (λ (b : Bool). cond b ys (y ∷ without_first test ys)) h))
+        let is : (g y == g x) ≡ true = eq-eqb (g y) (g x) (ap g same) in (
+          ap (λ (b : Bool). cond b (Some y) (find (λ z. g z == g x) ys)) is ∙ ap Some same,
+          ap (λ (b : Bool). cond b ys (y ∷ without_first (λ z. g z == g x) ys)) is ∙ sym (ap (λ (b : Bool). cond b ys (y ∷ without_first test ys)) h),
+        )
     by-test false h rest =
         let later : find test ys ≡ Some x = sym (ap (λ (b : Bool). cond b (Some y) (find test ys)) h) ∙ e in
         let out = first-out (times (g x)) (Additive-times (g x)) g test ys x later in
         let one = self-once (g x) in
         let apart : (g y == g x) ≡ false = ne_eqb (g y) (g x) (λ k. let two : cond (g y == g x) 1 0 ≡ 1 = ap {B = ℕ} (λ (b : Bool). cond b 1 0) (eq-eqb (g y) (g x) k) in omega (arith, few, out, one, two)) in
         let less : times (g x) (map g ys) ≤ 1 = omega (arith, few) in
-        let r = rest later less in
-        (ap (λ (b : Bool). cond b (Some y) (find (λ z. g z == g x) ys)) apart ∙ r.0,
-        ap (λ (b : Bool). cond b ys (y ∷ without_first (λ z. g z == g x) ys)) apart ∙ ap (λ (zs : List X). y ∷ zs) r.1 ∙ sym (ap (λ (b : Bool). cond b ys (y ∷ without_first test ys)) h))
+        let r = rest later less in (
+          ap (λ (b : Bool). cond b (Some y) (find (λ z. g z == g x) ys)) apart ∙ r.0,
+          ap (λ (b : Bool). cond b ys (y ∷ without_first (λ z. g z == g x) ys)) apart ∙ ap (λ (zs : List X). y ∷ zs) r.1 ∙ sym (ap (λ (b : Bool). cond b ys (y ∷ without_first test ys)) h),
+        )
 
 -- the thread that waits longest for an event, woken by its number
 pub first-woken : (p : Placed) (event : Event) (t : ℕ) → IsCounted p → Some t ≡ option_map (λ w. w.thread) (first_waiter p event)
@@ -149,14 +142,7 @@ first-woken p event t c e = by-waiter (first_waiter p event) refl e
         let once = c.once w.thread in
         let all = c.placed w.thread in
         let r = by-number (λ x. x.thread) (λ x. is_event x.event event) p.waits w is (omega (arith, once, all)) in
-        subst (λ (n : ℕ). IsSome (waiter_of p n) × (woken_waiter p (λ w. w.thread == n) (waiter_of p n) ≡ woken_one p event)) (sym (some-same h))
-        (is-some (waiter_of p w.thread) w r.0,
-        ap (woken_waiter p (λ x. x.thread == w.thread)) r.0 ∙ ap (λ (ws : List Waiter). readied (record p { waits = ws }) w.class w.thread) r.1 ∙ sym (ap (woken_waiter p (λ x. is_event x.event event)) is))
-
--- one that waits is woken as one that waits, and else as one that sleeps
-pub woken-waits : (p : Placed) (t : ℕ) → IsSome (waiter_of p t) → woken_waiter p (λ x. x.thread == t) (waiter_of p t) ≡ woken_still p t (waiter_of p t)
-woken-waits p t h = by-waiter (waiter_of p t) h
-  where
-    by-waiter : (o : Option Waiter) → IsSome o → woken_waiter p (λ x. x.thread == t) o ≡ woken_still p t o
-    by-waiter None k = cc
-    by-waiter (Some w) k = refl
+        subst (λ (n : ℕ). IsSome (waiter_of p n) × (woken_waiter p (λ w. w.thread == n) (waiter_of p n) ≡ woken_one p event)) (sym (some-same h)) (
+          is-some (waiter_of p w.thread) w r.0,
+          ap (woken_waiter p (λ x. x.thread == w.thread)) r.0 ∙ ap (λ (ws : List Waiter). readied (record p { waits = ws }) w.class w.thread) r.1 ∙ sym (ap (woken_waiter p (λ x. is_event x.event event)) is),
+        )

@@ -1,4 +1,7 @@
 //! The places of threads.
+//!
+//! A call that moves a thread looks for it by number in a hash table, and takes time in proportion to the logarithm of the most threads
+//! that lived at once, since a tree knows when each is due; what a call takes beyond that it says.
 ghost use Rattle.std.specs.Prelude.{◌≡◌, ◌==◌, ◌<◌, ◌≤◌, ◌+◌, ◌↔◌, ℕ, [], None, Some, IfOk, OnOk, OnErr, IsNone, IsSome, IsTrue, length, slice_get, option_map, map, is_some, IsPermutation};
 ghost use Rattle.std.specs.List.Sorted.{IsSortedBy, IsSortedByKey, IsStableByKey};
 ghost use Rattle.std.specs.Ordering.{nat_cmp};
@@ -110,7 +113,7 @@ impl Threads {
         ready.iter().map(|waiter| waiter.thread).collect(alloc)
     }
 
-    /// The threads that wait for an event, in the order of their queue. Looks through the waiting threads.
+    /// The threads that wait for an event, in the order of their queue. Takes time and memory in proportion to all waiting threads.
     pub fn waiting_for(&self, alloc: Global, event: Event) -> Result<Vec<ThreadNo>, AllocError>
         ensures { IfOk result (λ v. v.items ≡ map (λ w. w.thread) (queue_of self.now event)) }
     {
@@ -151,7 +154,7 @@ impl Threads {
 
     /// Makes a thread, which goes to the end of its class's ready queue.
     ///
-    /// Takes room for it in every queue, so that no later call takes any. For want of memory nothing changes.
+    /// Takes room for it in every queue, so that no later call takes any; tables grow now and then. For want of memory nothing changes.
     pub fn spawn(&mut self, thread: ThreadNo, class: Class) -> Result<(), AllocError>
         requires { count thread self.old.live ≡ 0 }
         ensures spawned { OnOk result (self.new ≡ spawned self.old thread class) }
@@ -238,7 +241,7 @@ impl Threads {
         }
     }
 
-    /// The thread on a processor ends.
+    /// The thread on a processor ends. Takes constant time.
     pub fn end(&mut self, vp: u32)
         requires { IsSome (running_at self.old vp) }
         ensures { self.new ≡ ended self.old vp }
@@ -250,6 +253,9 @@ impl Threads {
     }
 
     /// The thread that waits longest for an event gets ready. Answers it, and None exactly where nobody waits.
+    ///
+    /// An event without a number has its own queue. One with a number is looked for among the threads that wait for an event of its kind
+    /// whose number leaves the same rest by 128.
     pub fn wake_one(&mut self, event: Event) -> Option<ThreadNo>
         ensures thread { result ≡ option_map (λ w. w.thread) (first_waiter self.old event) }
         ensures woken { self.new ≡ woken_one self.old event }
