@@ -35,6 +35,7 @@ impl Lists {
         ensures lists { IfOk result (λ v. list_count v ≡ lists) }
         ensures empty { IfOk result (λ v. (l : ℕ) → list_at v l ≡ []) }
         ensures no_ids { IfOk result (λ v. id_count v ≡ 0) }
+        ensures sound { IfOk result (λ v. IsSound v) }
     {
         Ok(Lists {
             web: Web::new(alloc, lists)?,
@@ -49,6 +50,7 @@ impl Lists {
         ensures lists { list_count self.new ≡ list_count self.old }
         ensures same { SameLists self.old self.new }
         ensures homes { (x : ℕ) → home_at self.new x ≡ home_at self.old x }
+        ensures sound { IsSound self.new }
     {
         self.web.add_id()
     }
@@ -103,6 +105,7 @@ impl Lists {
         ensures list { ListBecomes self.old self.new list (list_at self.old list ++ id ∷ []) }
         ensures home { HomeBecomes self.old self.new id (Some list) }
         ensures counts { SameCounts self.old self.new }
+        ensures sound { IsSound self.new }
     {
         self.web.link_before(HEAD + list, id, list);
     }
@@ -115,6 +118,7 @@ impl Lists {
         ensures list { ListBecomes self.old self.new list (id ∷ list_at self.old list) }
         ensures home { HomeBecomes self.old self.new id (Some list) }
         ensures counts { SameCounts self.old self.new }
+        ensures sound { IsSound self.new }
     {
         let first = self.web.next(HEAD + list);
         self.web.link_before(first, id, list);
@@ -128,6 +132,7 @@ impl Lists {
         ensures list { (l : ℕ) → home_at self.old next ≡ Some l → ListBecomes self.old self.new l (put_before next id (list_at self.old l)) }
         ensures home { HomeBecomes self.old self.new id (home_at self.old next) }
         ensures counts { SameCounts self.old self.new }
+        ensures sound { IsSound self.new }
     {
         match self.web.home(next) {
             Some(list) => self.web.link_before(next, id, list),
@@ -141,6 +146,7 @@ impl Lists {
         ensures list { (l : ℕ) → home_at self.old id ≡ Some l → ListBecomes self.old self.new l (without id (list_at self.old l)) }
         ensures home { HomeBecomes self.old self.new id None }
         ensures counts { SameCounts self.old self.new }
+        ensures sound { IsSound self.new }
     {
         self.web.take_out(id);
     }
@@ -151,6 +157,7 @@ impl Lists {
         ensures list { (l : ℕ) → home_at self.old id ≡ Some l → ListBecomes self.old self.new l (without id (list_at self.old l) ++ id ∷ []) }
         ensures homes { (x : ℕ) → home_at self.new x ≡ home_at self.old x }
         ensures counts { SameCounts self.old self.new }
+        ensures sound { IsSound self.new }
     {
         match self.home(id) {
             Some(list) => {
@@ -169,6 +176,7 @@ impl Lists {
         ensures list { (id : ℕ) → result ≡ Some id → ListBecomes self.old self.new list (without id (list_at self.old list)) }
         ensures home { (id : ℕ) → result ≡ Some id → HomeBecomes self.old self.new id None }
         ensures counts { SameCounts self.old self.new }
+        ensures sound { IsSound self.new }
     {
         let first = self.front(list)?;
         self.unlink(first);

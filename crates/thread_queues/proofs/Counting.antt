@@ -2,7 +2,7 @@
 use Rattle.std.proofs.Common.{◌≡◌, ℕ, zero, suc, ◌+◌, ◌<◌, ◌≤◌, List, [], ◌∷◌, ◌++◌, length, map, get_or, drop, refl, ap, sym, ◌∙◌, arith, inl, inr, Option, Some, None, IsSome, option_to_list, length-append, replicate}
 use Rattle.std.specs.List.{flat_map, slice_get}
 use Rattle.std.proofs.Math.ListN.{set}
-use Rattle.std.proofs.lemmas.List.{get_or_past, get_or_default, length-replicate, map-append}
+use Rattle.std.proofs.lemmas.List.{get_or_past, length-replicate, map-append}
 use Rattle.std.proofs.lemmas.Bool.{cases_lt}
 use Rattle.std.proofs.lemmas.Bool.Decides.{nat_tests}
 use Rattle.ids_base.specs.declared.class.Class.{Class}
@@ -68,12 +68,6 @@ none-some (Some a) e h = cc
 pub runs_lt : (xs : List (Option ℕ)) (vp : ℕ) → IsSome (get_or xs vp None) → vp < length xs
 runs_lt xs vp some = elim (cases_lt vp (length xs)) [ inl h ↦ h | inr h ↦ absurd (none-some (get_or xs vp None) (get_or_past xs vp None h) some) ]
 
--- it stops
-pub running-stop : (f : List ℕ → ℕ) → Additive f → (xs : List (Option ℕ)) (vp t : ℕ) (o : Option ℕ) → vp < length xs → o ≡ get_or xs vp o → o ≡ Some t → f (flat_map option_to_list (set xs vp None)) + f (t ∷ []) ≡ f (flat_map option_to_list xs)
-running-stop f a xs vp t o h read is =
-    let at : get_or xs vp None ≡ Some t = get_or_default xs vp None o h ∙ sym read ∙ is in
-    omega (arith, running-set f a xs vp None h, ap (λ (x : Option ℕ). f (option_to_list x)) at, a.nil)
-
 pub counted-step : (p q : Placed) → IsCounted p → q.live ≡ p.live → length q.running ≡ length p.running → q.cpu ≡ p.cpu → ((f : List ℕ → ℕ) → Additive f → all_places f q ≡ all_places f p) → IsCounted q
 counted-step p q c live run cpu same = record {
   once = λ n. omega (arith, c.once n, ap (times n) live);
@@ -108,13 +102,6 @@ placed_of-counted p c = record {
     times-append n (map (λ s. s.thread) p.sleeps) (flat_map option_to_list p.running),
   );
 }
-
-pub queue-le : (q : Queues) (class : Class) → length (queue q class) ≤ in_queues length q
-unfolding in_queues
-queue-le q Cpu = omega arith
-queue-le q Lio = omega arith
-queue-le q Pio = omega arith
-queue-le q Aio = omega arith
 
 nothing-runs : (n : ℕ) → flat_map option_to_list (replicate {A = Option ℕ} n None) ≡ []
 nothing-runs zero = refl

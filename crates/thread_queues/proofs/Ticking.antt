@@ -1,20 +1,12 @@
 -- The first of the due threads: found item by item, and woken.
 use Rattle.std.proofs.Common.{◌≡◌, ◌==◌, ℕ, zero, suc, List, [], ◌∷◌, ◌++◌, length, get_or, Bool, true, false, cond, refl, ap, sym, subst, ◌∙◌, arith, Option, Some, None, IsSome, IsNone, All, find, nat_le, unwrap_or}
 use Rattle.std.proofs.lemmas.Bool.{eq-eqb}
-use Rattle.std.proofs.lemmas.List.Elements.{All-nil, All-cons, All-head, All-tail, All-append, All-filter, filter-append}
+use Rattle.std.proofs.lemmas.List.Elements.{All-nil, All-cons, All-head, All-tail, All-append, All-filter}
 use Rattle.thread_queues.specs.declared.event.Waiter.{Waiter}
 use Rattle.thread_queues.specs.declared.event.Sleeper.{Sleeper}
 use Rattle.thread_queues.specs.declared.event.Due.{Due}
 use Rattle.thread_queues.specs.Placed.{Placed, waiter_of, sleeper_of, running_at, thread_at, sleeping, without_first, woken, woken_still, roused, IsStill}
-use Rattle.thread_queues.specs.Ticks.{due_by, limits_of_waits, limits_of_sleeps, reached, due_threads, is_before, earlier, first_of, first_due, still_count, with_first_woken, due_woken}
-
-first_of-append : (first : Option Due) (xs ys : List Due) → first_of first (xs ++ ys) ≡ first_of (first_of first xs) ys
-first_of-append first [] ys = refl
-first_of-append first (x ∷ xs) ys = first_of-append (earlier first x) xs ys
-
--- first the items of one list, then those of another
-pub reached-both : (first : Option Due) (now : ℕ) (xs ys : List Due) → first_of first (reached now (xs ++ ys)) ≡ first_of (first_of first (reached now xs)) (reached now ys)
-reached-both first now xs ys = ap (first_of first) (filter-append (λ (d : Due). nat_le d.tick now) xs ys) ∙ first_of-append first (reached now xs) (reached now ys)
+use Rattle.thread_queues.specs.Ticks.{due_by, limits_of_waits, limits_of_sleeps, due_threads, is_before, first_of, first_due, still_count, with_first_woken, due_woken}
 
 -- one that is known stays, or makes room for another
 first_of-some : (first : Due) (ds : List Due) → IsSome (first_of (Some first) ds)

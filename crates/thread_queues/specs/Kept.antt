@@ -1,8 +1,8 @@
--- What is kept of threads: each in one place, and room for each in every queue.
+-- What is kept of threads: each in one place.
 use Rattle.std.specs.Prelude.{ℕ, ◌+◌, ◌≡◌, ◌≤◌, List, length, map, option_to_list}
 use Rattle.std.specs.List.{flat_map}
-use Rattle.std.specs.Vec.{vec_capacity}
 use Rattle.thread_queues.specs.Placed.{Placed, times}
+use Rattle.thread_queues.specs.Shown.{shown}
 use Rattle.thread_queues.specs.declared.places.Threads.TheInside.{Inside}
 
 -- a count of all places, part by part
@@ -12,7 +12,7 @@ all_places f p =
     + (f (map (λ w. w.thread) p.waits) + (f (map (λ s. s.thread) p.sleeps) + f (flat_map option_to_list p.running))))))
 
 abbrev pub placed_of : Inside → Placed
-placed_of a = record { cpu = a.cpu; tick = a.tick; live = a.live.items; ready = a.ready.queues; waits = a.waits.items; sleeps = a.sleeps.items; running = a.running.items }
+placed_of a = shown a.cpu a.tick a.slots a.running.items
 
 -- no live thread twice; the places hold the live threads, as many as there are
 pub record IsCounted (p : Placed) : Type 0 where
@@ -23,6 +23,4 @@ pub record IsCounted (p : Placed) : Type 0 where
 
 pub record IsKept (a : Inside) : Type 0 where
   pub counted : IsCounted (placed_of a)
-  pub ready_room : length a.live.items ≤ a.ready.room
-  pub waits_room : length a.live.items ≤ vec_capacity a.waits
-  pub sleeps_room : length a.live.items ≤ vec_capacity a.sleeps
+  pub six : length a.slots.queues ≡ 6

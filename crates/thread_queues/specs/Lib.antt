@@ -1,5 +1,9 @@
 pub mod Events
+pub mod Firsts
 pub mod Kept
+pub mod Laid
 pub mod Placed
-pub mod Roomy
+pub mod Shown
+pub mod Slotted
 pub mod Ticks
+pub mod Tree

@@ -1,5 +1,5 @@
 -- Where each thread stands, and what each call makes of it.
-use Rattle.std.specs.Prelude.{ℕ, ◌+◌, ◌≡◌, ◌≤◌, ◌==◌, Bool, if◌then◌else◌, Option, Some, None, IsSome, IsNone, List, [], ◌∷◌, ◌++◌, map, drop, slice_get, slice_set, slice_index_or, replicate, find, filter, remove, option_to_list, unwrap_or}
+use Rattle.std.specs.Prelude.{ℕ, ◌+◌, ◌≡◌, ◌≤◌, ◌==◌, Bool, if◌then◌else◌, Option, Some, None, IsSome, IsNone, List, [], ◌∷◌, ◌++◌, map, drop, slice_get, slice_set, slice_index_or, replicate, find, filter, option_to_list, unwrap_or}
 use Rattle.std.specs.List.{flat_map}
 use Rattle.ids_base.specs.declared.class.Class.{Class}
 use Rattle.ids_base.specs.declared.class.Class.TheVariants.{Cpu, Lio, Pio, Aio}
@@ -117,15 +117,6 @@ first_waiter p event = find (λ w. is_event w.event event) p.waits
 
 abbrev pub woken_one : Placed → Event → Placed
 woken_one p event = woken_waiter p (λ w. is_event w.event event) (first_waiter p event)
-
--- the waiting thread at a place is ready, and waits no more
-abbrev pub woken_at : Placed → ℕ → Option Waiter → Placed
-woken_at p i None = p
-woken_at p i (Some w) = readied (record p { waits = remove p.waits i }) w.class w.thread
-
-abbrev pub roused_at : Placed → ℕ → Option Sleeper → Placed
-roused_at p i None = p
-roused_at p i (Some s) = readied (record p { sleeps = remove p.sleeps i }) s.class s.thread
 
 -- the sleeper that passes is ready, and sleeps no more
 abbrev pub roused : Placed → (Sleeper → Bool) → Option Sleeper → Placed

@@ -1,59 +1,11 @@
-//! The due thread that is woken first.
-ghost use Rattle.std.specs.Prelude.{◌≡◌, ◌∷◌, [], None};
-ghost use Rattle.thread_queues.specs.Ticks.{reached, limits_of_waits, limits_of_sleeps, first_of, earlier, is_before};
+//! Which of two due threads is woken first.
+ghost use Rattle.std.specs.Prelude.{◌≡◌};
+ghost use Rattle.thread_queues.specs.Ticks.{earlier, is_before};
 
-use crate::event::{Due, Sleeper, Waiter};
+use crate::event::Due;
 
-/// The first due thread of those that wait with a limit.
-pub fn first_waiter(waits: &[Waiter], now: u64) -> Option<Due>
-    ensures { result ≡ first_of None (reached now (limits_of_waits waits.now)) }
-{
-    let mut first = None;
-    for waiter in waits {
-        if let Some(tick) = waiter.due {
-            first = with_reached(
-                first,
-                Due {
-                    tick,
-                    thread: waiter.thread,
-                },
-                now,
-            );
-        }
-    }
-    first
-}
-
-/// The first due thread of those that sleep, and of one that waits.
-pub fn first_sleeper(waiter: Option<Due>, sleeps: &[Sleeper], now: u64) -> Option<Due>
-    ensures { result ≡ first_of waiter (reached now (limits_of_sleeps sleeps.now)) }
-{
-    let mut first = waiter;
-    for sleeper in sleeps {
-        first = with_reached(
-            first,
-            Due {
-                tick: sleeper.due,
-                thread: sleeper.thread,
-            },
-            now,
-        );
-    }
-    first
-}
-
-/// The first of two, of which the second counts if its tick has come.
-fn with_reached(first: Option<Due>, other: Due, now: u64) -> Option<Due>
-    ensures { result ≡ first_of first (reached now (other ∷ [])) }
-{
-    if other.tick <= now {
-        earlier_of(first, other)
-    } else {
-        first
-    }
-}
-
-fn earlier_of(first: Option<Due>, other: Due) -> Option<Due>
+/// The one of two that is woken first.
+pub fn earlier_of(first: Option<Due>, other: Due) -> Option<Due>
     ensures { result ≡ earlier first other }
 {
     match first {

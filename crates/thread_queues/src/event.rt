@@ -1,5 +1,6 @@
 //! What a thread may wait for, and a thread that waits or sleeps.
 ghost use Rattle.std.specs.Prelude.{◌≡◌};
+ghost use Rattle.thread_queues.specs.Events.{is_event};
 
 use ids_base::class::Class;
 use ids_base::numbers::ThreadNo;
@@ -36,6 +37,24 @@ impl Event {
             Event::Critical => 8589934597,
             Event::Cleaning => 8589934598,
         }
+    }
+}
+
+/// Whether two events are the same.
+pub fn same_event(a: Event, b: Event) -> bool
+    ensures { result ≡ is_event a b }
+{
+    match (a, b) {
+        (Event::Latch(f), Event::Latch(g)) => f == g,
+        (Event::Page(p), Event::Page(q)) => p == q,
+        (Event::Lock, Event::Lock)
+        | (Event::LogFlush, Event::LogFlush)
+        | (Event::PhysFlush, Event::PhysFlush)
+        | (Event::LogSpace, Event::LogSpace)
+        | (Event::Checkpoint, Event::Checkpoint)
+        | (Event::Critical, Event::Critical)
+        | (Event::Cleaning, Event::Cleaning) => true,
+        _ => false,
     }
 }
 

@@ -1,12 +1,14 @@
 //! Threads that are ready, wait, sleep or run, each in exactly one place.
 //!
-//! `Event` is what a thread may wait for, and `Threads` keeps the queues and the processors.
+//! `Event` is what a thread may wait for, and `Threads` keeps the queues and the processors. Inside, `slots` has the threads in queues, by
+//! number, and `limits` when each is due.
 #![tactic(auto)]
 
 mod due;
 pub mod event;
+mod limits;
 pub mod places;
-mod ready;
+mod slots;
 #[cfg(test)]
 mod tests;
 

@@ -1,30 +1,32 @@
 //! The places of threads.
+//!
+//! A call that moves a thread looks for it by number in a hash table, and takes time in proportion to the logarithm of the most threads
+//! that lived at once, since a tree knows when each is due; what a call takes beyond that it says.
 ghost use Rattle.std.specs.Prelude.{◌≡◌, ◌==◌, ◌<◌, ◌≤◌, ◌+◌, ◌↔◌, ℕ, [], None, Some, IfOk, OnOk, OnErr, IsNone, IsSome, IsTrue, length, slice_get, option_map, map, is_some, IsPermutation};
-ghost use Rattle.std.specs.List.{position_or_len};
 ghost use Rattle.std.specs.List.Sorted.{IsSortedBy, IsSortedByKey, IsStableByKey};
 ghost use Rattle.std.specs.Ordering.{nat_cmp};
 ghost use Rattle.ids_base.specs.Classes.{class_of};
 ghost use Rattle.thread_queues.specs.Events.{is_event, number_of};
-ghost use Rattle.thread_queues.specs.Placed.{times as count, queue, queue_of, waiter_of, sleeper_of, running_at, thread_at, first_waiter, idle, spawned, dispatched, yielded, waiting, sleeping, ended, woken_one, woken_at, roused_at, woken, IsStill, IsPlaced};
+ghost use Rattle.thread_queues.specs.Placed.{times as count, queue, queue_of, waiter_of, sleeper_of, running_at, thread_at, first_waiter, idle, spawned, dispatched, yielded, waiting, sleeping, ended, woken_one, woken_waiter, roused, woken, IsStill, IsPlaced};
+ghost use Rattle.thread_queues.specs.Shown.{class_queue, sleeper};
 ghost use Rattle.thread_queues.specs.Ticks.{due_threads, first_due, still_count, raised, ticked, is_due_before};
 
-use crate::due;
-use crate::event::{Due, Event, Sleeper, Waiter};
-use crate::ready::Ready;
+use crate::event::{Due, Event, Sleeper, Waiter, same_event};
+use crate::slots::{Slots, WAITS};
 use ids_base::class::Class;
 use ids_base::numbers::ThreadNo;
 use std::alloc::{AllocError, Global};
 use std::marker::Model;
+
+/// The queue of the threads that sleep.
+const SLEEPS: u32 = 5;
 
 /// Live threads: each is ready, waits for one event, sleeps, or runs on one processor.
 #[derive(Drop)]
 pub struct Threads {
     cpu: u32,
     tick: u64,
-    live: Vec<ThreadNo>,
-    ready: Ready,
-    waits: Vec<Waiter>,
-    sleeps: Vec<Sleeper>,
+    slots: Slots,
     running: Vec<Option<ThreadNo>>,
 }
 
@@ -46,6 +48,7 @@ impl Threads {
         requires { cpu ≤ 16 }
         ensures { IfOk result (λ t. t ≡ idle cpu) }
     {
+        let slots = Slots::new(alloc)?;
         let mut running = Vec::with_capacity(alloc, cpu as usize + 3)?;
         for _ in 0..cpu + 3 {
             running.push_reserved(None);
@@ -53,10 +56,7 @@ impl Threads {
         Ok(Self {
             cpu,
             tick: 0,
-            live: Vec::new(alloc),
-            ready: Ready::new(alloc),
-            waits: Vec::new(alloc),
-            sleeps: Vec::new(alloc),
+            slots,
             running,
         })
     }
@@ -84,39 +84,40 @@ impl Threads {
         self.running[vp as usize]
     }
 
-    /// Whether a thread lives: it was spawned and has not ended. Looks through the live threads.
+    /// Whether a thread lives: it was spawned and has not ended. Takes constant time.
     pub fn lives(&self, thread: ThreadNo) -> bool
         ensures { IsTrue result ↔ (0 < count thread self.now.live) }
     {
-        live_place(&self.live, thread) < self.live.len()
+        self.slots.lives(thread)
     }
 
-    /// Whether a thread waits. Looks through the waiting threads.
+    /// Whether a thread waits. Takes constant time.
     pub fn waits(&self, thread: ThreadNo) -> bool
         ensures { result ≡ is_some (waiter_of self.now thread) }
     {
-        waiter_place(&self.waits, thread) < self.waits.len()
+        self.slots.stands(WAITS, thread)
     }
 
-    /// Whether a thread sleeps. Looks through the sleeping threads.
+    /// Whether a thread sleeps. Takes constant time.
     pub fn sleeps(&self, thread: ThreadNo) -> bool
         ensures { result ≡ is_some (sleeper_of self.now thread) }
     {
-        sleeper_place(&self.sleeps, thread) < self.sleeps.len()
+        self.slots.stands(SLEEPS, thread)
     }
 
     /// The ready threads of a class, in the order of their queue. Takes time and memory in proportion to them.
     pub fn ready(&self, alloc: Global, class: Class) -> Result<Vec<ThreadNo>, AllocError>
         ensures { IfOk result (λ v. v.items ≡ queue self.now.ready class) }
     {
-        self.ready.threads(alloc, class)
+        let ready = self.slots.list(alloc, ready_queue(class))?;
+        ready.iter().map(|waiter| waiter.thread).collect(alloc)
     }
 
-    /// The threads that wait for an event, in the order of their queue. Looks through the waiting threads.
+    /// The threads that wait for an event, in the order of their queue. Takes time and memory in proportion to all waiting threads.
     pub fn waiting_for(&self, alloc: Global, event: Event) -> Result<Vec<ThreadNo>, AllocError>
         ensures { IfOk result (λ v. v.items ≡ map (λ w. w.thread) (queue_of self.now event)) }
     {
-        let waits = &self.waits;
+        let waits = self.slots.list(alloc, WAITS)?;
         waits
             .iter()
             .filter(|waiter| same_event(waiter.event, event))
@@ -133,7 +134,7 @@ impl Threads {
         ensures by_queue { IfOk result
             (λ v. IsStableByKey (λ w. number_of w.event) nat_cmp self.now.waits v.items) }
     {
-        let mut waiters = Vec::from_slice(alloc, &self.waits)?;
+        let mut waiters = self.slots.list(alloc, WAITS)?;
         waiters.sort_by_key(|waiter| waiter.event.number())?;
         Ok(waiters)
     }
@@ -145,7 +146,7 @@ impl Threads {
         ensures all { IfOk result (λ v. IsPermutation self.now.sleeps v.items) }
         ensures by_tick { IfOk result (λ v. IsSortedBy is_due_before v.items) }
     {
-        let mut sleepers = Vec::from_slice(alloc, &self.sleeps)?;
+        let mut sleepers = sleepers_of(alloc, &self.slots.list(alloc, SLEEPS)?)?;
         sleepers.sort_by_key(|sleeper| sleeper.thread)?;
         sleepers.sort_by_key(|sleeper| sleeper.due)?;
         Ok(sleepers)
@@ -153,18 +154,15 @@ impl Threads {
 
     /// Makes a thread, which goes to the end of its class's ready queue.
     ///
-    /// Takes room for it in every queue, so that no later call takes any. For want of memory nothing changes.
+    /// Takes room for it in every queue, so that no later call takes any; tables grow now and then. For want of memory nothing changes.
     pub fn spawn(&mut self, thread: ThreadNo, class: Class) -> Result<(), AllocError>
         requires { count thread self.old.live ≡ 0 }
         ensures spawned { OnOk result (self.new ≡ spawned self.old thread class) }
         ensures unchanged { OnErr result (self.new ≡ self.old) }
     {
-        let more = self.live.len() + 1;
-        self.ready.make_room(more)?;
-        self.waits.reserve(more - self.waits.len())?;
-        self.sleeps.reserve(more - self.sleeps.len())?;
-        self.live.push(thread)?;
-        self.ready.push(class, thread);
+        self.slots.add(thread)?;
+        self.slots
+            .put(ready_queue(class), ready_waiter(thread, class));
         Ok(())
     }
 
@@ -175,7 +173,8 @@ impl Threads {
         ensures head { result ≡ slice_get (queue self.old.ready (class_of self.old.cpu vp)) 0 }
         ensures dispatched { self.new ≡ dispatched self.old vp }
     {
-        let thread = self.ready.pop(Class::of_processor(self.cpu, vp));
+        let class = Class::of_processor(self.cpu, vp);
+        let thread = self.slots.pop(ready_queue(class));
         self.running[vp as usize] = thread;
         thread
     }
@@ -187,7 +186,9 @@ impl Threads {
     {
         if let Some(thread) = self.running[vp as usize] {
             self.running[vp as usize] = None;
-            self.ready.push(Class::of_processor(self.cpu, vp), thread);
+            let class = Class::of_processor(self.cpu, vp);
+            self.slots
+                .put(ready_queue(class), ready_waiter(thread, class));
         }
     }
 
@@ -213,12 +214,13 @@ impl Threads {
     {
         if let Some(thread) = self.running[vp as usize] {
             self.running[vp as usize] = None;
-            self.waits.push_reserved(Waiter {
+            let waiter = Waiter {
                 event,
                 thread,
                 class: Class::of_processor(self.cpu, vp),
                 due,
-            });
+            };
+            self.slots.put(WAITS, waiter);
         }
     }
 
@@ -229,48 +231,62 @@ impl Threads {
     {
         if let Some(thread) = self.running[vp as usize] {
             self.running[vp as usize] = None;
-            self.sleeps.push_reserved(Sleeper {
-                due: tick,
+            let waiter = Waiter {
+                event: Event::Lock,
                 thread,
                 class: Class::of_processor(self.cpu, vp),
-            });
+                due: Some(tick),
+            };
+            self.slots.put(SLEEPS, waiter);
         }
     }
 
-    /// The thread on a processor ends.
+    /// The thread on a processor ends. Takes constant time.
     pub fn end(&mut self, vp: u32)
         requires { IsSome (running_at self.old vp) }
         ensures { self.new ≡ ended self.old vp }
     {
         if let Some(thread) = self.running[vp as usize] {
             self.running[vp as usize] = None;
-            let place = live_place(&self.live, thread);
-            self.live.remove(place);
+            self.slots.remove(thread);
         }
     }
 
     /// The thread that waits longest for an event gets ready. Answers it, and None exactly where nobody waits.
+    ///
+    /// An event without a number has its own queue. One with a number is looked for among the threads that wait for an event of its kind
+    /// whose number leaves the same rest by 128.
     pub fn wake_one(&mut self, event: Event) -> Option<ThreadNo>
         ensures thread { result ≡ option_map (λ w. w.thread) (first_waiter self.old event) }
         ensures woken { self.new ≡ woken_one self.old event }
     {
-        let place = first_for(&self.waits, event);
-        if place < self.waits.len() {
-            Some(self.wake_at(place))
-        } else {
-            None
-        }
+        let thread = self.slots.first_for(event)?;
+        self.wake_waiting(thread);
+        Some(thread)
     }
 
-    /// The waiting thread at this place gets ready.
-    fn wake_at(&mut self, place: usize) -> ThreadNo
-        requires { place < length self.old.waits }
-        ensures thread { option_map (λ w. w.thread) (slice_get self.old.waits place) ≡ Some result }
-        ensures woken { self.new ≡ woken_at self.old place (slice_get self.old.waits place) }
+    /// A waiting thread gets ready.
+    fn wake_waiting(&mut self, thread: ThreadNo)
+        requires { IsSome (waiter_of self.old thread) }
+        ensures { self.new ≡ woken_waiter self.old (λ w. w.thread == thread) (waiter_of self.old thread) }
     {
-        let waiter = self.waits.remove(place);
-        self.ready.push(waiter.class, waiter.thread);
-        waiter.thread
+        let waiter = self.slots.take(WAITS, thread);
+        self.slots.put(
+            ready_queue(waiter.class),
+            ready_waiter(waiter.thread, waiter.class),
+        );
+    }
+
+    /// A sleeping thread gets ready.
+    fn wake_sleeping(&mut self, thread: ThreadNo)
+        requires { IsSome (sleeper_of self.old thread) }
+        ensures { self.new ≡ roused self.old (λ s. s.thread == thread) (sleeper_of self.old thread) }
+    {
+        let waiter = self.slots.take(SLEEPS, thread);
+        self.slots.put(
+            ready_queue(waiter.class),
+            ready_waiter(waiter.thread, waiter.class),
+        );
     }
 
     /// A thread that waits or sleeps gets ready.
@@ -278,18 +294,16 @@ impl Threads {
         requires { IsStill self.old thread }
         ensures { self.new ≡ woken self.old thread }
     {
-        let place = waiter_place(&self.waits, thread);
-        if place < self.waits.len() {
-            self.wake_at(place);
+        if self.waits(thread) {
+            self.wake_waiting(thread);
         } else {
-            let place = sleeper_place(&self.sleeps, thread);
-            self.rouse_at(place);
+            self.wake_sleeping(thread);
         }
     }
 
     /// The tick rises by one, and the threads that wait with a limit or sleep and are due get ready: by due tick, then by number.
     ///
-    /// Takes time in proportion to the threads that get ready, times those that wait or sleep.
+    /// Takes time in proportion to the threads that get ready, times the logarithm of the number of live threads.
     pub fn tick(&mut self)
         requires { self.old.tick < 18446744073709551615 }
         ensures ticked { self.new ≡ ticked self.old }
@@ -313,84 +327,52 @@ impl Threads {
     fn first_due(&self) -> Option<Due>
         ensures { result ≡ first_due self.now }
     {
-        let waiter = due::first_waiter(&self.waits, self.tick);
-        due::first_sleeper(waiter, &self.sleeps, self.tick)
-    }
-
-    /// The sleeping thread at this place gets ready.
-    fn rouse_at(&mut self, place: usize)
-        requires { place < length self.old.sleeps }
-        ensures { self.new ≡ roused_at self.old place (slice_get self.old.sleeps place) }
-    {
-        let sleeper = self.sleeps.remove(place);
-        self.ready.push(sleeper.class, sleeper.thread);
-    }
-}
-
-/// Where the first waiter for an event stands, and how many there are where none does.
-fn first_for(waits: &[Waiter], event: Event) -> usize
-    ensures { result ≡ position_or_len (λ w. is_event w.event event) waits.now }
-{
-    for (i, waiter) in waits.iter().enumerate() {
-        if same_event(waiter.event, event) {
-            return i;
+        let due = self.slots.first_limit()?;
+        if due.tick <= self.tick {
+            Some(due)
+        } else {
+            None
         }
     }
-    waits.len()
 }
 
-/// Whether two events are the same.
-fn same_event(a: Event, b: Event) -> bool
-    ensures { result ≡ is_event a b }
+/// The ready queue of a class.
+fn ready_queue(class: Class) -> u32
+    ensures queue { result ≡ class_queue class }
+    ensures in_range { result < 4 }
 {
-    match (a, b) {
-        (Event::Latch(f), Event::Latch(g)) => f == g,
-        (Event::Page(p), Event::Page(q)) => p == q,
-        (Event::Lock, Event::Lock)
-        | (Event::LogFlush, Event::LogFlush)
-        | (Event::PhysFlush, Event::PhysFlush)
-        | (Event::LogSpace, Event::LogSpace)
-        | (Event::Checkpoint, Event::Checkpoint)
-        | (Event::Critical, Event::Critical)
-        | (Event::Cleaning, Event::Cleaning) => true,
-        _ => false,
+    match class {
+        Class::Cpu => 0,
+        Class::Lio => 1,
+        Class::Pio => 2,
+        Class::Aio => 3,
     }
 }
 
-/// Where a thread waits, and how many threads wait where it does not.
-fn waiter_place(waits: &[Waiter], thread: ThreadNo) -> usize
-    ensures { result ≡ position_or_len (λ w. w.thread == thread) waits.now }
+/// A ready thread, which waits for nothing.
+fn ready_waiter(thread: ThreadNo, class: Class) -> Waiter
+    ensures { result.thread ≡ thread }
 {
-    for (i, waiter) in waits.iter().enumerate() {
-        if waiter.thread == thread {
-            return i;
-        }
+    Waiter {
+        event: Event::Lock,
+        thread,
+        class,
+        due: None,
     }
-    waits.len()
 }
 
-/// Where a thread sleeps, and how many threads sleep where it does not.
-fn sleeper_place(sleeps: &[Sleeper], thread: ThreadNo) -> usize
-    ensures { result ≡ position_or_len (λ s. s.thread == thread) sleeps.now }
+/// Sleeping threads without what they have of waiting ones.
+fn sleepers_of(alloc: Global, waiters: &[Waiter]) -> Result<Vec<Sleeper>, AllocError>
+    ensures { IfOk result (λ v. v.items ≡ map sleeper waiters.now) }
 {
-    for (i, sleeper) in sleeps.iter().enumerate() {
-        if sleeper.thread == thread {
-            return i;
-        }
-    }
-    sleeps.len()
-}
-
-/// Where a number stands among the live threads, and how many there are where it does not.
-fn live_place(live: &[ThreadNo], thread: ThreadNo) -> usize
-    ensures { result ≡ position_or_len (λ t. t == thread) live.now }
-{
-    for (i, number) in live.iter().enumerate() {
-        if *number == thread {
-            return i;
-        }
-    }
-    live.len()
+    waiters
+        .iter()
+        .map(|waiter| Sleeper {
+            due: waiter.due.unwrap_or(0),
+            thread: waiter.thread,
+            class: waiter.class,
+        })
+        .collect(alloc)
 }
 
 #[cfg(test)]

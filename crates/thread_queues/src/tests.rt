@@ -11,7 +11,7 @@ use std::test::Fail;
 const EVENTS: [Event; 7] = [
     Event::Lock,
     Event::Latch(1),
-    Event::Latch(130),
+    Event::Latch(129),
     Event::Page(2),
     Event::Page(9),
     Event::LogFlush,

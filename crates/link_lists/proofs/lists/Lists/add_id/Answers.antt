@@ -3,7 +3,7 @@ use Rattle.link_lists.specs.Rings.{seen, lists_of}
 use Rattle.link_lists.specs.Web.{home_of}
 use Rattle.link_lists.specs.Lists.{id_count}
 use Rattle.link_lists.proofs.Seen.{length-made}
-use Rattle.link_lists.proofs.Calls.{ids-are, grown-well, grown-lists, grown-homes, grown-count}
+use Rattle.link_lists.proofs.Calls.{is-sound, ids-are, grown-well, grown-lists, grown-homes, grown-count}
 use Rattle.link_lists.proofs.lists.Lists.add_id.Goals as goal
 
 rises : {E : Type 0} (r : Result ℕ E) (n m : ℕ) → OnOk r (m ≡ n + 1) → OnErr r (m ≡ n) → n ≤ m
@@ -42,3 +42,6 @@ returns-clause-same c = grown-lists _ _ c.self.view_is c.self.invariant c.add_id
 
 pub returns-clause-homes : goal.returns-clause-homes
 returns-clause-homes c = grown-homes _ _ c.self.view_is c.self.invariant c.add_id.new.self c.add_id.ensures.lists (rises c.add_id.result c.self.inside.web.ids c.add_id.new.self.ids c.add_id.ensures.more c.add_id.ensures.same_ids) c.add_id.new.self.few_ids c.add_id.ensures.next c.add_id.ensures.prev c.add_id.ensures.home
+
+pub returns-clause-sound : goal.returns-clause-sound
+returns-clause-sound c = is-sound _ _ refl (grown-well _ _ c.self.view_is c.self.invariant c.add_id.new.self c.add_id.ensures.lists (rises c.add_id.result c.self.inside.web.ids c.add_id.new.self.ids c.add_id.ensures.more c.add_id.ensures.same_ids) c.add_id.new.self.few_ids c.add_id.ensures.next c.add_id.ensures.prev c.add_id.ensures.home)

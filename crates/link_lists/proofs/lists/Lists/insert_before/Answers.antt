@@ -1,7 +1,7 @@
-use Rattle.std.proofs.Common.{◌≡◌, ◌∙◌, ap, Some, None, sym, subst, IsSome}
+use Rattle.std.proofs.Common.{refl, ◌≡◌, ◌∙◌, ap, Some, None, sym, subst, IsSome}
 use Rattle.link_lists.specs.Lists.{home_at, list_at, put_before, ListBecomes, HomeBecomes}
 use Rattle.link_lists.specs.Rings.{seen}
-use Rattle.link_lists.proofs.Calls.{known, at-home, home-is, before-asks, before-leaves}
+use Rattle.link_lists.proofs.Calls.{is-sound, known, at-home, home-is, before-asks, before-leaves}
 use Rattle.link_lists.proofs.lists.Lists.insert_before.Goals as goal
 
 pub home-requires : goal.home-requires
@@ -33,3 +33,6 @@ returns-clause-home c = subst (λ o. HomeBecomes c.args.self.now (seen c.link_be
 
 pub returns-clause-counts : goal.returns-clause-counts
 returns-clause-counts c = (before-leaves _ _ c.self.view_is c.self.invariant c.args.next c.in-Some.list c.args.id (sym (home-is _ _ c.self.view_is c.self.invariant c.args.next) ∙ sym c.home.ensures ∙ c.in-Some.is) c.requires.there c.requires.free _ c.link_before.ensures).counts
+
+pub returns-clause-sound : goal.returns-clause-sound
+returns-clause-sound c = is-sound _ _ refl (before-leaves _ _ c.self.view_is c.self.invariant c.args.next c.in-Some.list c.args.id (sym (home-is _ _ c.self.view_is c.self.invariant c.args.next) ∙ sym c.home.ensures ∙ c.in-Some.is) c.requires.there c.requires.free _ c.link_before.ensures).well

@@ -1,5 +1,5 @@
-use Rattle.std.proofs.Common.{arith}
-use Rattle.link_lists.proofs.Calls.{low-list, back-asks, back-leaves}
+use Rattle.std.proofs.Common.{arith, refl}
+use Rattle.link_lists.proofs.Calls.{is-sound, low-list, back-asks, back-leaves}
 use Rattle.link_lists.proofs.lists.Lists.push_back.Goals as goal
 
 pub overflow_add-list : goal.overflow_add-list
@@ -31,3 +31,6 @@ returns-clause-home c = (back-leaves _ _ c.self.view_is c.self.invariant c.args.
 
 pub returns-clause-counts : goal.returns-clause-counts
 returns-clause-counts c = (back-leaves _ _ c.self.view_is c.self.invariant c.args.list c.args.id c.requires.list c.requires.there c.requires.free _ c.link_before.ensures).counts
+
+pub returns-clause-sound : goal.returns-clause-sound
+returns-clause-sound c = is-sound _ _ refl (back-leaves _ _ c.self.view_is c.self.invariant c.args.list c.args.id c.requires.list c.requires.there c.requires.free _ c.link_before.ensures).well

@@ -1,5 +1,5 @@
-use Rattle.std.proofs.Common.{arith}
-use Rattle.link_lists.proofs.Calls.{low-list, head-is-place, front-asks, front-leaves}
+use Rattle.std.proofs.Common.{refl, arith}
+use Rattle.link_lists.proofs.Calls.{is-sound, low-list, head-is-place, front-asks, front-leaves}
 use Rattle.link_lists.proofs.lists.Lists.push_front.Goals as goal
 
 pub overflow_add-list : goal.overflow_add-list
@@ -34,3 +34,6 @@ returns-clause-home c = (front-leaves _ _ c.self.view_is c.self.invariant c.args
 
 pub returns-clause-counts : goal.returns-clause-counts
 returns-clause-counts c = (front-leaves _ _ c.self.view_is c.self.invariant c.args.list c.args.id c.requires.list c.requires.there c.requires.free _ _ c.next-first.ensures c.link_before.ensures).counts
+
+pub returns-clause-sound : goal.returns-clause-sound
+returns-clause-sound c = is-sound _ _ refl (front-leaves _ _ c.self.view_is c.self.invariant c.args.list c.args.id c.requires.list c.requires.there c.requires.free _ _ c.next-first.ensures c.link_before.ensures).well

@@ -1,4 +1,5 @@
-use Rattle.link_lists.proofs.Calls.{known, out-there, out-before, out-behind, out-leaves}
+use Rattle.std.proofs.Common.{refl}
+use Rattle.link_lists.proofs.Calls.{is-sound, known, out-there, out-before, out-behind, out-leaves}
 use Rattle.link_lists.specs.Lists.{home_at}
 use Rattle.link_lists.proofs.lists.Lists.unlink.Goals as goal
 
@@ -22,3 +23,6 @@ returns-clause-home c = let k = known (home_at c.args.self.now c.args.id) c.requ
 
 pub returns-clause-counts : goal.returns-clause-counts
 returns-clause-counts c = let k = known (home_at c.args.self.now c.args.id) c.requires in (out-leaves _ _ c.self.view_is c.self.invariant k.0 c.args.id k.1 _ c.take_out.ensures).counts
+
+pub returns-clause-sound : goal.returns-clause-sound
+returns-clause-sound c = let k = known (home_at c.args.self.now c.args.id) c.requires in is-sound _ _ refl (out-leaves _ _ c.self.view_is c.self.invariant k.0 c.args.id k.1 _ c.take_out.ensures).well

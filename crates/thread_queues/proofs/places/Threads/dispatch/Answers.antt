@@ -1,23 +1,26 @@
-use Rattle.std.proofs.Common.{◌≡◌, ◌<◌, ℕ, length, None, Option, option_to_list, get_or, subst, sym, ap, refl, arith}
-use Rattle.std.proofs.Math.ListN.{length-set}
-use Rattle.thread_queues.specs.Placed.{Placed, running_at}
-use Rattle.thread_queues.specs.Kept.{placed_of}
-use Rattle.thread_queues.proofs.Counting.{in_queues, queues-parts, queues-pop, running-set, counted-step}
+use Rattle.std.proofs.Common.{◌≡◌, ◌<◌, ◌∙◌, ℕ, List, Option, None, length, drop, sym, ap, subst}
+use Rattle.std.proofs.Math.ListN.{set}
+use Rattle.std.specs.List.{slice_get}
+use Rattle.std.proofs.lemmas.List.{length-set}
+use Rattle.thread_queues.specs.Placed.{Placed, queue, with_queue, running_at}
+use Rattle.thread_queues.specs.Slotted.{Slotted, threads_of, queue_at, popped_from}
+use Rattle.thread_queues.specs.Shown.{shown, ready_of}
+use Rattle.thread_queues.specs.Kept.{placed_of, IsCounted}
+use Rattle.thread_queues.proofs.Counted.{counted-dispatched}
+use Rattle.thread_queues.proofs.Placing.{pop-shown, head-shown}
 use Rattle.thread_queues.proofs.places.Threads.dispatch.Goals as goal
 
 pub invariant_of-self : goal.invariant_of-self
 invariant_of-self c =
     let a = c.self.inside in
-    let there : c.args.vp < length a.running.items = subst (λ (x : Placed). c.args.vp < length x.running) (sym c.self.view_is) c.requires.there in
-    let free : get_or a.running.items c.args.vp None ≡ None = subst (λ (x : Placed). running_at x c.args.vp ≡ None) (sym c.self.view_is) c.requires.free in
+    let p = placed_of a in
+    let class = c.of_processor-class.result in
+    let run = set a.running.items c.args.vp c.pop-thread.result in
+    let head = c.pop-thread.ensures.head ∙ ap (λ (q : ℕ). slice_get (threads_of (queue_at a.slots q)) 0) c.ready_queue.ensures.queue ∙ ap (λ (ts : List ℕ). slice_get ts 0) (head-shown a.cpu a.tick a.slots.live run a.slots.queues class) in
+    let e = ap (λ (s : Slotted). shown a.cpu a.tick s run) c.pop-thread.ensures.rest ∙ ap (λ (q : ℕ). shown a.cpu a.tick (popped_from a.slots q) run) c.ready_queue.ensures.queue
+    ∙ pop-shown a.cpu a.tick a.slots.live run a.slots.queues c.self.invariant.six class
+    ∙ ap (λ (o : Option ℕ). record p { ready = with_queue (ready_of a.slots) class (drop 1 (queue (ready_of a.slots) class)); running = set a.running.items c.args.vp o }) head in
     record {
-      counted = counted-step (placed_of a) _ c.self.invariant.counted refl (length-set a.running.items c.args.vp c.pop-thread.result) refl (λ f ad.
-          let popped = ap (in_queues f) c.pop-thread.ensures.queues in
-          let rest = queues-pop f ad a.ready.queues c.of_processor.result in
-          let head = ap (λ (o : Option ℕ). f (option_to_list o)) c.pop-thread.ensures.head in
-          let none = ap (λ (o : Option ℕ). f (option_to_list o)) free in
-          omega (arith, popped, rest, head, none, ad.nil, queues-parts f a.ready.queues, queues-parts f c.pop-thread.new.self.queues, running-set f ad a.running.items c.args.vp c.pop-thread.result there));
-      ready_room = omega (arith, c.self.invariant.ready_room, c.pop-thread.ensures.room);
-      waits_room = c.self.invariant.waits_room;
-      sleeps_room = c.self.invariant.sleeps_room;
+      counted = subst IsCounted (sym e) (counted-dispatched p c.args.vp class (subst (λ (x : Placed). c.args.vp < length x.running) (sym c.self.view_is) c.requires.there) (subst (λ (x : Placed). running_at x c.args.vp ≡ None) (sym c.self.view_is) c.requires.free) c.self.invariant.counted);
+      six = ap (λ (s : Slotted). length s.queues) c.pop-thread.ensures.rest ∙ length-set a.slots.queues _ _ ∙ c.self.invariant.six;
     }

@@ -1,22 +1,47 @@
-use Rattle.std.proofs.Common.{◌≡◌, ◌∙◌, List, [], ◌∷◌, length, map, subst, sym, ap, refl, arith, ◌++◌, length-append}
-use Rattle.thread_queues.specs.declared.event.Waiter.{Waiter}
-use Rattle.thread_queues.specs.declared.event.Sleeper.{Sleeper}
-use Rattle.thread_queues.specs.Placed.{Placed, Queues, queue, with_queue, times}
-use Rattle.thread_queues.specs.Kept.{placed_of}
-use Rattle.thread_queues.proofs.Counting.{in_queues, queues-parts, queues-push, counted-spawn}
+use Rattle.std.proofs.Common.{◌≡◌, ◌<◌, ◌++◌, ◌∷◌, ◌∙◌, [], ℕ, length, sym, ap, subst}
+use Rattle.std.proofs.lemmas.List.{length-set}
+use Rattle.thread_queues.specs.Placed.{Placed, times, readied, spawned}
+use Rattle.thread_queues.specs.Slotted.{Slotted, with_thread, put_in, IsApart}
+use Rattle.thread_queues.specs.Shown.{shown}
+use Rattle.thread_queues.specs.Kept.{placed_of, IsCounted}
+use Rattle.thread_queues.proofs.Counted.{absent, counted-spawned, added-lives}
+use Rattle.thread_queues.proofs.Placing.{ready-shown, apart-six}
 use Rattle.thread_queues.proofs.places.Threads.spawn.Goals as goal
+
+pub put-requires-clause-lives : goal.put-requires-clause-lives
+put-requires-clause-lives c =
+    let a = c.self.inside in
+    subst (λ (n : ℕ). 0 < times n c.add.new.self.live) (sym c.ready_waiter.ensures) (subst (λ (s : Slotted). 0 < times c.args.thread s.live) (sym c.in_ok-add.ensures.added) (added-lives a.slots.live c.args.thread))
+
+pub put-requires-clause-apart : goal.put-requires-clause-apart
+put-requires-clause-apart c =
+    let a = c.self.inside in
+    let new = subst (λ (x : Placed). times c.args.thread x.live ≡ 0) (sym c.self.view_is) c.requires in
+    let none = absent (placed_of a) c.args.thread c.self.invariant.counted new in
+    subst (λ (n : ℕ). IsApart c.add.new.self n) (sym c.ready_waiter.ensures) (subst (λ (s : Slotted). IsApart s c.args.thread) (sym c.in_ok-add.ensures.added) (apart-six (with_thread a.slots c.args.thread) c.self.invariant.six c.args.thread none.0 none.1 none.2))
 
 pub invariant_of-self-2 : goal.invariant_of-self-2
 invariant_of-self-2 c =
     let a = c.self.inside in
-    let live = c.in_ok-push.ensures.items in
+    let t = c.args.thread in
+    let rw = c.ready_waiter.result in
+    let new = subst (λ (x : Placed). times c.args.thread x.live ≡ 0) (sym c.self.view_is) c.requires in
+    let slots = c.put.ensures ∙ ap (λ (s : Slotted). put_in s c.ready_queue.result rw) c.in_ok-add.ensures.added in
+    let e = ap (λ (s : Slotted). shown a.cpu a.tick s a.running.items) slots ∙ ap (λ (q : ℕ). shown a.cpu a.tick (put_in (with_thread a.slots t) q rw) a.running.items) c.ready_queue.ensures.queue
+    ∙ ready-shown a.cpu a.tick (a.slots.live ++ t ∷ []) a.running.items a.slots.queues c.self.invariant.six c.args.class rw
+    ∙ ap (λ (n : ℕ). readied (shown a.cpu a.tick (with_thread a.slots t) a.running.items) c.args.class n) c.ready_waiter.ensures in
     record {
-      counted = counted-spawn (placed_of a) _ c.args.thread c.self.invariant.counted (subst (λ (x : Placed). times c.args.thread x.live ≡ 0) (sym c.self.view_is) c.requires) live refl refl (λ f ad.
-          let pushed = ap (in_queues f) (c.push-2.ensures.queues ∙ ap (λ (q : Queues). with_queue q c.args.class (queue q c.args.class ++ c.args.thread ∷ [])) c.in_ok-make_room.ensures.queues) ∙ queues-push f ad a.ready.queues c.args.class c.args.thread in
-          let waits = ap (λ (l : List Waiter). f (map (λ w. w.thread) l)) c.in_ok-reserve.ensures.items in
-          let sleeps = ap (λ (l : List Sleeper). f (map (λ s. s.thread) l)) c.in_ok-reserve-2.ensures.items in
-          omega (arith, pushed, waits, sleeps, queues-parts f a.ready.queues, queues-parts f c.push-2.new.self.queues));
-      ready_room = omega (arith, ap length live, length-append a.live.items (c.args.thread ∷ []), c.push-2.ensures.room, c.in_ok-make_room.ensures.room, c.len-more.ensures);
-      waits_room = omega (arith, ap length live, length-append a.live.items (c.args.thread ∷ []), c.in_ok-reserve.ensures.ok, c.in_ok-reserve.ensures.len, c.len-more.ensures, c.len.ensures);
-      sleeps_room = omega (arith, ap length live, length-append a.live.items (c.args.thread ∷ []), c.in_ok-reserve-2.ensures.ok, c.in_ok-reserve-2.ensures.len, c.len-more.ensures, c.len-2.ensures);
+      counted = subst IsCounted (sym e) (counted-spawned (placed_of a) t c.args.class new c.self.invariant.counted);
+      six = ap (λ (s : Slotted). length s.queues) slots ∙ length-set a.slots.queues _ _ ∙ c.self.invariant.six;
     }
+
+pub returns-clause-spawned : goal.returns-clause-spawned
+returns-clause-spawned c =
+    let a = c.self.inside in
+    let t = c.args.thread in
+    let rw = c.ready_waiter.result in
+    let slots = c.put.ensures ∙ ap (λ (s : Slotted). put_in s c.ready_queue.result rw) c.in_ok-add.ensures.added in
+    ap (λ (s : Slotted). shown a.cpu a.tick s a.running.items) slots ∙ ap (λ (q : ℕ). shown a.cpu a.tick (put_in (with_thread a.slots t) q rw) a.running.items) c.ready_queue.ensures.queue
+    ∙ ready-shown a.cpu a.tick (a.slots.live ++ t ∷ []) a.running.items a.slots.queues c.self.invariant.six c.args.class rw
+    ∙ ap (λ (n : ℕ). readied (shown a.cpu a.tick (with_thread a.slots t) a.running.items) c.args.class n) c.ready_waiter.ensures
+    ∙ ap (λ (x : Placed). spawned x t c.args.class) c.self.view_is

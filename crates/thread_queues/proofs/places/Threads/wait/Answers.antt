@@ -1,27 +1,60 @@
-use Rattle.std.proofs.Common.{◌∙◌, List, length, map, None, IsSome, subst, sym, ap, refl, arith}
-use Rattle.std.proofs.Math.ListN.{length-set}
-use Rattle.std.proofs.lemmas.List.{length-map}
-use Rattle.thread_queues.specs.declared.event.Waiter.{Waiter}
-use Rattle.thread_queues.specs.Placed.{Placed, running_at}
-use Rattle.thread_queues.specs.Kept.{placed_of}
-use Rattle.thread_queues.proofs.Counting.{Additive-length, running-stop, runs_lt, mapped-push, counted-step}
+use Rattle.std.proofs.Common.{◌≡◌, ◌++◌, ◌∷◌, ◌∙◌, [], ℕ, Option, Some, None, IsSome, length, unwrap_or, refl, sym, ap, subst}
+use Rattle.std.proofs.Math.ListN.{set}
+use Rattle.std.proofs.lemmas.List.{get_or_default, length-set}
+use Rattle.ids_base.specs.declared.class.Class.{Class}
+use Rattle.ids_base.specs.Classes.{class_of}
+use Rattle.thread_queues.specs.Placed.{Placed, running_at, stopped, waiting}
+use Rattle.thread_queues.specs.Slotted.{Slotted}
+use Rattle.thread_queues.specs.Shown.{shown}
+use Rattle.thread_queues.specs.Kept.{placed_of, IsCounted}
+use Rattle.thread_queues.proofs.Counting.{runs_lt}
+use Rattle.thread_queues.proofs.Counted.{runs-live, counted-waits}
+use Rattle.thread_queues.proofs.Placing.{wait-shown, apart-six}
 use Rattle.thread_queues.proofs.places.Threads.wait.Goals as goal
 
-pub push_reserved-requires : goal.push_reserved-requires
-push_reserved-requires c =
+pub put-requires-clause-lives : goal.put-requires-clause-lives
+put-requires-clause-lives c =
     let a = c.self.inside in
+    let t = c.in-Some.thread in
+    let p = placed_of a in
     let there = runs_lt a.running.items c.args.vp (subst (λ (x : Placed). IsSome (running_at x c.args.vp)) (sym c.self.view_is) c.requires) in
-    omega (arith, c.self.invariant.counted.size, running-stop length Additive-length a.running.items c.args.vp c.in-Some.thread c.index.result.now there c.index.ensures c.in-Some.is, length-map a.waits.items (λ w. w.thread), c.self.invariant.waits_room)
+    let at : running_at p c.args.vp ≡ Some t = get_or_default a.running.items c.args.vp None c.index.result.now there ∙ sym c.index.ensures ∙ c.in-Some.is in
+    let runs = runs-live p c.args.vp t c.self.invariant.counted at in
+    runs.0
+
+pub put-requires-clause-apart : goal.put-requires-clause-apart
+put-requires-clause-apart c =
+    let a = c.self.inside in
+    let t = c.in-Some.thread in
+    let p = placed_of a in
+    let there = runs_lt a.running.items c.args.vp (subst (λ (x : Placed). IsSome (running_at x c.args.vp)) (sym c.self.view_is) c.requires) in
+    let at : running_at p c.args.vp ≡ Some t = get_or_default a.running.items c.args.vp None c.index.result.now there ∙ sym c.index.ensures ∙ c.in-Some.is in
+    let runs = runs-live p c.args.vp t c.self.invariant.counted at in
+    apart-six a.slots c.self.invariant.six t runs.1 runs.2 runs.3
 
 pub invariant_of-self : goal.invariant_of-self
 invariant_of-self c =
     let a = c.self.inside in
+    let t = c.in-Some.thread in
+    let p = placed_of a in
     let there = runs_lt a.running.items c.args.vp (subst (λ (x : Placed). IsSome (running_at x c.args.vp)) (sym c.self.view_is) c.requires) in
+    let at : running_at p c.args.vp ≡ Some t = get_or_default a.running.items c.args.vp None c.index.result.now there ∙ sym c.index.ensures ∙ c.in-Some.is in
+    let runs = runs-live p c.args.vp t c.self.invariant.counted at in
+    let e = ap (λ (s : Slotted). shown a.cpu a.tick s (set a.running.items c.args.vp None)) c.put.ensures ∙ wait-shown a.cpu a.tick a.slots.live (set a.running.items c.args.vp None) a.slots.queues c.self.invariant.six (record { event = c.args.event; thread = t; class = c.of_processor.result; due = c.args.due }) in
     record {
-      counted = counted-step (placed_of a) _ c.self.invariant.counted refl (length-set a.running.items c.args.vp None) refl (λ f ad.
-          let pushed = ap (λ (l : List Waiter). f (map (λ w. w.thread) l)) c.push_reserved.ensures.items ∙ mapped-push f ad (λ w. w.thread) a.waits.items _ in
-          omega (arith, pushed, running-stop f ad a.running.items c.args.vp c.in-Some.thread c.index.result.now there c.index.ensures c.in-Some.is));
-      ready_room = c.self.invariant.ready_room;
-      waits_room = omega (arith, c.self.invariant.waits_room, c.push_reserved.ensures.capacity);
-      sleeps_room = omega (arith, c.self.invariant.sleeps_room);
+      counted = subst IsCounted (sym e) (counted-waits p c.args.vp t (record { event = c.args.event; thread = t; class = c.of_processor.result; due = c.args.due }) refl c.self.invariant.counted at);
+      six = ap (λ (s : Slotted). length s.queues) c.put.ensures ∙ length-set a.slots.queues 4 _ ∙ c.self.invariant.six;
     }
+
+pub returns-in-Some : goal.returns-in-Some
+returns-in-Some c =
+    let a = c.self.inside in
+    let t = c.in-Some.thread in
+    let p = placed_of a in
+    let there = runs_lt a.running.items c.args.vp (subst (λ (x : Placed). IsSome (running_at x c.args.vp)) (sym c.self.view_is) c.requires) in
+    let at : running_at p c.args.vp ≡ Some t = get_or_default a.running.items c.args.vp None c.index.result.now there ∙ sym c.index.ensures ∙ c.in-Some.is in
+    let runs = runs-live p c.args.vp t c.self.invariant.counted at in
+    let e = ap (λ (s : Slotted). shown a.cpu a.tick s (set a.running.items c.args.vp None)) c.put.ensures ∙ wait-shown a.cpu a.tick a.slots.live (set a.running.items c.args.vp None) a.slots.queues c.self.invariant.six (record { event = c.args.event; thread = t; class = c.of_processor.result; due = c.args.due }) in
+    e ∙ ap (λ (k : Class). record (stopped p c.args.vp) { waits = p.waits ++ record { event = c.args.event; thread = t; class = k; due = c.args.due } ∷ [] }) c.of_processor.ensures
+    ∙ ap (λ (o : Option ℕ). record (stopped p c.args.vp) { waits = p.waits ++ record { event = c.args.event; thread = unwrap_or o 0; class = class_of a.cpu c.args.vp; due = c.args.due } ∷ [] }) (sym at)
+    ∙ ap (λ (x : Placed). waiting x c.args.vp c.args.event c.args.due) c.self.view_is

@@ -12,5 +12,5 @@ returns-clause-by_event c = c.in_ok-sort_by_key.ensures.sorted (λ w. number_of 
 
 pub returns-clause-by_queue : goal.returns-clause-by_queue
 returns-clause-by_queue c =
-    subst (λ (ws : List Waiter). IsStableByKey (λ w. number_of w.event) nat_cmp ws c.sort_by_key.new.self.items) (c.in_ok-waiters.ensures.items ∙ c.deref.ensures.value ∙ ap (λ (x : Placed). x.waits) c.self.view_is)
+    subst (λ (ws : List Waiter). IsStableByKey (λ w. number_of w.event) nat_cmp ws c.sort_by_key.new.self.items) (c.in_ok-waiters.ensures ∙ ap (λ (x : Placed). x.waits) c.self.view_is)
     (c.in_ok-sort_by_key.ensures.stable (λ w. number_of w.event) (answers_always _ _ _ (λ f a r g h. search rules)))

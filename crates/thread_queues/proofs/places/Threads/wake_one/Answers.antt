@@ -1,33 +1,17 @@
-use Rattle.std.proofs.Common.{◌≡◌, ◌∙◌, ℕ, length, Option, sym, ap, arith, option_map}
-use Rattle.std.specs.List.{slice_get, position_or_len}
+use Rattle.std.proofs.Common.{◌≡◌, ◌==◌, ◌∙◌, IsSome, subst}
 use Rattle.thread_queues.specs.declared.event.Waiter.{Waiter}
-use Rattle.thread_queues.specs.Events.{is_event}
-use Rattle.thread_queues.specs.Placed.{Placed, woken_at, woken_waiter}
-use Rattle.thread_queues.proofs.Removing.{find-position, without-position, slice_get-past, woken_at-waiter}
+use Rattle.thread_queues.specs.Placed.{Placed, waiter_of, woken_waiter, woken_one}
+use Rattle.thread_queues.specs.Kept.{placed_of}
+use Rattle.thread_queues.proofs.Waking.{first-woken}
 use Rattle.thread_queues.proofs.places.Threads.wake_one.Goals as goal
 
-pub returns-then-place-len-clause-thread : goal.returns-then-place-len-clause-thread
-returns-then-place-len-clause-thread c =
-    let now = c.args.self.now in
-    let place : c.first_for-place.result ≡ position_or_len (λ (w : Waiter). is_event w.event c.args.event) now.waits = c.first_for-place.ensures ∙ ap (position_or_len (λ (w : Waiter). is_event w.event c.args.event)) (c.deref.ensures.value ∙ ap (λ (x : Placed). x.waits) c.self.view_is) in
-    sym c.wake_at.ensures.thread ∙ ap (λ (o : Option Waiter). option_map (λ w. w.thread) o) (ap (slice_get now.waits) place ∙ sym (find-position (λ (w : Waiter). is_event w.event c.args.event) now.waits))
+pub wake_waiting-requires : goal.wake_waiting-requires
+wake_waiting-requires c =
+    let w = first-woken (placed_of c.self.inside) c.args.event c.in_ok-thread.thread c.self.invariant.counted c.in_ok-thread.ensures in
+    subst (λ (x : Placed). IsSome (waiter_of x c.in_ok-thread.thread)) c.self.view_is w.0
 
-pub returns-then-place-len-clause-woken : goal.returns-then-place-len-clause-woken
-returns-then-place-len-clause-woken c =
-    let now = c.args.self.now in
-    let place : c.first_for-place.result ≡ position_or_len (λ (w : Waiter). is_event w.event c.args.event) now.waits = c.first_for-place.ensures ∙ ap (position_or_len (λ (w : Waiter). is_event w.event c.args.event)) (c.deref.ensures.value ∙ ap (λ (x : Placed). x.waits) c.self.view_is) in
-    c.wake_at.ensures.woken ∙ ap (λ (i : ℕ). woken_at now i (slice_get now.waits i)) place ∙ ap (woken_at now (position_or_len (λ (w : Waiter). is_event w.event c.args.event) now.waits)) (sym (find-position (λ (w : Waiter). is_event w.event c.args.event) now.waits)) ∙ woken_at-waiter now (position_or_len (λ (w : Waiter). is_event w.event c.args.event) now.waits) (λ (w : Waiter). is_event w.event c.args.event) _ (without-position (λ (w : Waiter). is_event w.event c.args.event) now.waits)
-
-pub returns-else-place-len-clause-thread : goal.returns-else-place-len-clause-thread
-returns-else-place-len-clause-thread c =
-    let now = c.args.self.now in
-    let place : c.first_for-place.result ≡ position_or_len (λ (w : Waiter). is_event w.event c.args.event) now.waits = c.first_for-place.ensures ∙ ap (position_or_len (λ (w : Waiter). is_event w.event c.args.event)) (c.deref.ensures.value ∙ ap (λ (x : Placed). x.waits) c.self.view_is) in
-    let len = ap (λ (x : Placed). length x.waits) c.self.view_is in
-    sym (ap (λ (o : Option Waiter). option_map (λ w. w.thread) o) (find-position (λ (w : Waiter). is_event w.event c.args.event) now.waits ∙ slice_get-past now.waits _ (omega (arith, place, len, c.if-place-len.false, c.len.ensures))))
-
-pub returns-else-place-len-clause-woken : goal.returns-else-place-len-clause-woken
-returns-else-place-len-clause-woken c =
-    let now = c.args.self.now in
-    let place : c.first_for-place.result ≡ position_or_len (λ (w : Waiter). is_event w.event c.args.event) now.waits = c.first_for-place.ensures ∙ ap (position_or_len (λ (w : Waiter). is_event w.event c.args.event)) (c.deref.ensures.value ∙ ap (λ (x : Placed). x.waits) c.self.view_is) in
-    let len = ap (λ (x : Placed). length x.waits) c.self.view_is in
-    sym (ap (woken_waiter now (λ (w : Waiter). is_event w.event c.args.event)) (find-position (λ (w : Waiter). is_event w.event c.args.event) now.waits ∙ slice_get-past now.waits _ (omega (arith, place, len, c.if-place-len.false, c.len.ensures))))
+pub returns-clause-woken : goal.returns-clause-woken
+returns-clause-woken c =
+    let w = first-woken (placed_of c.self.inside) c.args.event c.in_ok-thread.thread c.self.invariant.counted c.in_ok-thread.ensures in
+    let t = c.in_ok-thread.thread in
+    c.wake_waiting.ensures ∙ subst (λ (x : Placed). woken_waiter x (λ (w : Waiter). w.thread == t) (waiter_of x t) ≡ woken_one x c.args.event) c.self.view_is w.1

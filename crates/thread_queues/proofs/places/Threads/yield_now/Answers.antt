@@ -1,25 +1,60 @@
-use Rattle.std.proofs.Common.{◌∙◌, length, None, IsSome, subst, sym, ap, refl, arith}
-use Rattle.std.proofs.Math.ListN.{length-set}
-use Rattle.thread_queues.specs.Placed.{Placed, running_at}
-use Rattle.thread_queues.specs.Kept.{placed_of}
-use Rattle.thread_queues.proofs.Counting.{Additive-length, in_queues, queues-parts, queues-push, running-stop, runs_lt, counted-step, queue-le}
+use Rattle.std.proofs.Common.{◌≡◌, ◌<◌, ◌∙◌, ℕ, Option, Some, None, IsSome, length, unwrap_or, sym, ap, subst}
+use Rattle.std.proofs.Math.ListN.{set}
+use Rattle.std.proofs.lemmas.List.{get_or_default, length-set}
+use Rattle.ids_base.specs.declared.class.Class.{Class}
+use Rattle.ids_base.specs.Classes.{class_of}
+use Rattle.thread_queues.specs.Placed.{Placed, times, running_at, stopped, readied, yielded}
+use Rattle.thread_queues.specs.Slotted.{Slotted, put_in, IsApart}
+use Rattle.thread_queues.specs.Shown.{shown}
+use Rattle.thread_queues.specs.Kept.{placed_of, IsCounted}
+use Rattle.thread_queues.proofs.Counting.{runs_lt}
+use Rattle.thread_queues.proofs.Counted.{runs-live, counted-yielded}
+use Rattle.thread_queues.proofs.Placing.{ready-shown, apart-six}
 use Rattle.thread_queues.proofs.places.Threads.yield_now.Goals as goal
 
-pub push-requires : goal.push-requires
-push-requires c =
+pub put-requires-clause-lives : goal.put-requires-clause-lives
+put-requires-clause-lives c =
     let a = c.self.inside in
+    let t = c.in-Some.thread in
+    let p = placed_of a in
     let there = runs_lt a.running.items c.args.vp (subst (λ (x : Placed). IsSome (running_at x c.args.vp)) (sym c.self.view_is) c.requires) in
-    omega (arith, c.self.invariant.counted.size, running-stop length Additive-length a.running.items c.args.vp c.in-Some.thread c.index.result.now there c.index.ensures c.in-Some.is, queue-le a.ready.queues c.of_processor.result, queues-parts length a.ready.queues, c.self.invariant.ready_room)
+    let at : running_at p c.args.vp ≡ Some t = get_or_default a.running.items c.args.vp None c.index.result.now there ∙ sym c.index.ensures ∙ c.in-Some.is in
+    let runs = runs-live p c.args.vp t c.self.invariant.counted at in
+    subst (λ (n : ℕ). 0 < times n a.slots.live) (sym c.ready_waiter.ensures) runs.0
+
+pub put-requires-clause-apart : goal.put-requires-clause-apart
+put-requires-clause-apart c =
+    let a = c.self.inside in
+    let t = c.in-Some.thread in
+    let p = placed_of a in
+    let there = runs_lt a.running.items c.args.vp (subst (λ (x : Placed). IsSome (running_at x c.args.vp)) (sym c.self.view_is) c.requires) in
+    let at : running_at p c.args.vp ≡ Some t = get_or_default a.running.items c.args.vp None c.index.result.now there ∙ sym c.index.ensures ∙ c.in-Some.is in
+    let runs = runs-live p c.args.vp t c.self.invariant.counted at in
+    subst (λ (n : ℕ). IsApart a.slots n) (sym c.ready_waiter.ensures) (apart-six a.slots c.self.invariant.six t runs.1 runs.2 runs.3)
 
 pub invariant_of-self : goal.invariant_of-self
 invariant_of-self c =
     let a = c.self.inside in
+    let t = c.in-Some.thread in
+    let p = placed_of a in
     let there = runs_lt a.running.items c.args.vp (subst (λ (x : Placed). IsSome (running_at x c.args.vp)) (sym c.self.view_is) c.requires) in
+    let at : running_at p c.args.vp ≡ Some t = get_or_default a.running.items c.args.vp None c.index.result.now there ∙ sym c.index.ensures ∙ c.in-Some.is in
+    let runs = runs-live p c.args.vp t c.self.invariant.counted at in
+    let e = ap (λ (s : Slotted). shown a.cpu a.tick s (set a.running.items c.args.vp None)) c.put.ensures ∙ ap (λ (q : ℕ). shown a.cpu a.tick (put_in a.slots q c.ready_waiter.result) (set a.running.items c.args.vp None)) c.ready_queue.ensures.queue ∙ ready-shown a.cpu a.tick a.slots.live (set a.running.items c.args.vp None) a.slots.queues c.self.invariant.six c.of_processor-class.result c.ready_waiter.result ∙ ap (λ (n : ℕ). readied (stopped p c.args.vp) c.of_processor-class.result n) c.ready_waiter.ensures in
     record {
-      counted = counted-step (placed_of a) _ c.self.invariant.counted refl (length-set a.running.items c.args.vp None) refl (λ f ad.
-          let pushed = ap (in_queues f) c.push.ensures.queues ∙ queues-push f ad a.ready.queues c.of_processor.result c.in-Some.thread in
-          omega (arith, pushed, queues-parts f a.ready.queues, queues-parts f c.push.new.self.queues, running-stop f ad a.running.items c.args.vp c.in-Some.thread c.index.result.now there c.index.ensures c.in-Some.is));
-      ready_room = omega (arith, c.self.invariant.ready_room, c.push.ensures.room);
-      waits_room = c.self.invariant.waits_room;
-      sleeps_room = c.self.invariant.sleeps_room;
+      counted = subst IsCounted (sym e) (counted-yielded p c.args.vp t c.of_processor-class.result c.self.invariant.counted at);
+      six = ap (λ (s : Slotted). length s.queues) c.put.ensures ∙ length-set a.slots.queues _ _ ∙ c.self.invariant.six;
     }
+
+pub returns-in-Some : goal.returns-in-Some
+returns-in-Some c =
+    let a = c.self.inside in
+    let t = c.in-Some.thread in
+    let p = placed_of a in
+    let there = runs_lt a.running.items c.args.vp (subst (λ (x : Placed). IsSome (running_at x c.args.vp)) (sym c.self.view_is) c.requires) in
+    let at : running_at p c.args.vp ≡ Some t = get_or_default a.running.items c.args.vp None c.index.result.now there ∙ sym c.index.ensures ∙ c.in-Some.is in
+    let runs = runs-live p c.args.vp t c.self.invariant.counted at in
+    let e = ap (λ (s : Slotted). shown a.cpu a.tick s (set a.running.items c.args.vp None)) c.put.ensures ∙ ap (λ (q : ℕ). shown a.cpu a.tick (put_in a.slots q c.ready_waiter.result) (set a.running.items c.args.vp None)) c.ready_queue.ensures.queue ∙ ready-shown a.cpu a.tick a.slots.live (set a.running.items c.args.vp None) a.slots.queues c.self.invariant.six c.of_processor-class.result c.ready_waiter.result ∙ ap (λ (n : ℕ). readied (stopped p c.args.vp) c.of_processor-class.result n) c.ready_waiter.ensures in
+    e ∙ ap (λ (k : Class). readied (stopped p c.args.vp) k t) c.of_processor-class.ensures
+    ∙ ap (λ (o : Option ℕ). readied (stopped p c.args.vp) (class_of a.cpu c.args.vp) (unwrap_or o 0)) (sym at)
+    ∙ ap (λ (x : Placed). yielded x c.args.vp) c.self.view_is

@@ -1,0 +1,132 @@
+-- The lists, blocks and limits stand for the threads, where places are added.
+use Rattle.std.proofs.Common.{◌≡◌, ◌∙◌, ℕ, zero, suc, ◌+◌, ◌≤◌, ◌==◌, true, List, [], ◌∷◌, ◌++◌, length, map, get_or, refl, ap, sym, subst, arith, inl, inr, length-append, Option, Some, None, IsSome}
+use Rattle.std.specs.List.{filter}
+use Rattle.std.proofs.lemmas.List.{get_or_past}
+use Rattle.std.proofs.lemmas.Bool.{cases_eq}
+use Rattle.link_lists.specs.Lists.{Lists, list_at, home_at, list_count, id_count, first_of, has, IsSound}
+use Rattle.link_lists.proofs.Members.{has-first}
+use Rattle.thread_queues.specs.declared.event.Due.{Due}
+use Rattle.thread_queues.specs.declared.event.Waiter.{Waiter}
+use Rattle.thread_queues.specs.Firsts.{due_at}
+use Rattle.thread_queues.specs.Slotted.{limit_in, nothing}
+use Rattle.thread_queues.specs.Laid.{no_waiter, block_at, number_at, bucket_of, slotted, IsLaid}
+use Rattle.thread_queues.proofs.Moving.{same-at}
+use Rattle.thread_queues.proofs.Putting.{IsPushed}
+
+fun_ext : {A B : Type 0} {f g : A → B} → ((x : A) → f x ≡ g x) → f ≡ g
+fun_ext h = λ i x. h x i
+
+-- places more, of which no list has one
+pub record IsMore (old new : Lists) : Type 0 where
+  pub lists : list_count new ≡ list_count old
+  pub ids : id_count old ≤ id_count new
+  pub same : (k : ℕ) → list_at new k ≡ list_at old k
+  pub homes : (x : ℕ) → home_at new x ≡ home_at old x
+  pub sound : IsSound new
+
+pub more-none : (v : Lists) → IsSound v → IsMore v v
+more-none v sound = record { lists = refl; ids = omega arith; same = λ k. refl; homes = λ x. refl; sound = sound }
+
+-- the same threads live, at the same places
+pub record HasSameLive (old new : Lists) : Type 0 where
+  pub lists : list_count new ≡ list_count old
+  pub live : list_at new 0 ≡ list_at old 0
+  pub stays : (x : ℕ) → home_at old x ≡ Some 0 → home_at new x ≡ Some 0
+  pub was : (x : ℕ) → home_at new x ≡ Some 0 → home_at old x ≡ Some 0
+  pub sound : IsSound new
+
+pub same-live : (v : Lists) → IsSound v → HasSameLive v v
+same-live v sound = record { lists = refl; live = refl; stays = λ x e. e; was = λ x e. e; sound = sound }
+
+-- one more than there was, where none is meant
+pub default-more : {X : Type 0} (xs : List X) (d : X) (k : ℕ) → get_or (xs ++ d ∷ []) k d ≡ get_or xs k d
+default-more [] d zero = refl
+default-more [] d (suc k) = refl
+default-more (x ∷ xs) d zero = refl
+default-more (x ∷ xs) d (suc k) = default-more xs d k
+
+module _ (al qs bu : Lists) (bs : List Waiter) (li : List (Option Due)) (id_of : ℕ → Option ℕ) (laid : IsLaid al qs bu bs li id_of)
+    (al' qs' bu' : Lists) (bs' : List Waiter) (li' : List (Option Due)) (live : HasSameLive al al') (queues : IsMore qs qs') (buckets : IsMore bu bu')
+    (blocks : (x : ℕ) → block_at bs' x ≡ block_at bs x) (limits : (x : ℕ) → due_at li' x ≡ due_at li x) where
+  pub grown-shown : slotted al' qs' bs' ≡ slotted al qs bs
+  grown-shown =
+      ap (λ (f : ℕ → Waiter). record { live = map (λ x. (f x).thread) (list_at al' 0); queues = map (λ ids. map f ids) qs'.lists }) (fun_ext blocks)
+      ∙ ap (λ (ids : List ℕ). record { live = map (number_at bs) ids; queues = map (λ ids. map (block_at bs) ids) qs'.lists }) live.live
+      ∙ ap (λ (ls : List (List ℕ)). record { live = map (number_at bs) (list_at al 0); queues = map (λ ids. map (block_at bs) ids) ls }) (same-at qs'.lists qs.lists queues.lists queues.same)
+
+  pub grown-laid : id_count al' ≤ id_count qs' → id_count al' ≤ id_count bu' → id_count al' ≤ length bs' → id_count al' ≤ length li' → IsLaid al' qs' bu' bs' li' id_of
+  grown-laid rq rb rs rl = record {
+    alive_sound = live.sound;
+    queues_sound = queues.sound;
+    buckets_sound = buckets.sound;
+    alive_count = live.lists ∙ laid.alive_count;
+    queue_count = queues.lists ∙ laid.queue_count;
+    bucket_count = buckets.lists ∙ laid.bucket_count;
+    queues_room = rq;
+    buckets_room = rb;
+    blocks_room = rs;
+    limits_room = rl;
+    lives = λ x q e. live.stays x (laid.lives x q (sym (queues.homes x) ∙ e));
+    found = λ t x. (
+      λ e. let r = (laid.found t x).0 e in (live.stays x r.0, ap (λ (w : Waiter). w.thread) (blocks x) ∙ r.1),
+      λ r. (laid.found t x).1 (live.was x r.0, ap (λ (w : Waiter). w.thread) (sym (blocks x)) ∙ r.1),
+    );
+    unbucketed = λ x e. buckets.homes x ∙ laid.unbucketed x (sym (queues.homes x) ∙ e);
+    in_bucket = λ x q e. subst (λ (o : Option ℕ). IsSome o) (sym (buckets.homes x)) (laid.in_bucket x q (sym (queues.homes x) ∙ e));
+    bucketed = λ b lt. buckets.same b ∙ laid.bucketed b lt ∙ ap (filter (λ x. bucket_of (block_at bs x).event == b)) (sym (queues.same 4))
+        ∙ ap (λ (f : ℕ → Waiter). filter (λ x. bucket_of (f x).event == b) (list_at qs' 4)) (sym (fun_ext blocks));
+    limited = λ x. limits x ∙ laid.limited x ∙ ap (λ (o : Option ℕ). limit_in o (block_at bs x)) (sym (queues.homes x)) ∙ ap (limit_in (home_at qs' x)) (sym (blocks x));
+  }
+
+pub blocks-more : (bs bs' : List Waiter) → bs' ≡ bs ++ no_waiter ∷ [] → ((x : ℕ) → block_at bs' x ≡ block_at bs x) × (length bs' ≡ length bs + 1)
+blocks-more bs bs' e = (λ x. ap (λ (ws : List Waiter). block_at ws x) e ∙ default-more bs no_waiter x, ap length e ∙ length-append bs (no_waiter ∷ []))
+
+pub limits-more : (li li' : List (Option Due)) → li' ≡ li ++ None ∷ [] → ((x : ℕ) → due_at li' x ≡ due_at li x) × (length li' ≡ length li + 1)
+limits-more li li' e = (λ x. ap (λ (ds : List (Option Due)). due_at ds x) e ∙ default-more li None x, ap length e ∙ length-append li (None ∷ []))
+
+pub live-more : (v w : Lists) → IsMore v w → HasSameLive v w
+live-more v w more = record { lists = more.lists; live = more.same 0; stays = λ x e. more.homes x ∙ e; was = λ x e. sym (more.homes x) ∙ e; sound = more.sound }
+
+-- a new place that no thread has
+pub live-free : (v w u : Lists) (id : ℕ) → IsMore v w → id ≡ id_count v → IsPushed w u 1 id → HasSameLive v u
+live-free v w u id more is pushed = record {
+  lists = pushed.counts.lists ∙ more.lists;
+  live = pushed.list.others 0 (λ e. omega (arith, e)) ∙ more.same 0;
+  stays = λ x e. pushed.home.others x (λ s. none-some (get_or_past v.homes x None (omega (arith, s, is))) e) ∙ more.homes x ∙ e;
+  was = λ x e. elim (cases_eq x id) [
+    | inl s ↦ absurd (zero-one e (ap (home_at u) s ∙ pushed.home.this))
+    | inr ne ↦ sym (more.homes x) ∙ sym (pushed.home.others x ne) ∙ e
+  ];
+  sound = pushed.sound;
+}
+  where
+    none-some : {o : Option ℕ} {l : ℕ} → o ≡ None → o ≡ Some l → ⊥
+    none-some e f = cc
+
+    zero-one : {o : Option ℕ} → o ≡ Some 0 → o ≡ Some 1 → ⊥
+    zero-one e f = absurd (apart (some-same (sym e ∙ f)))
+      where
+        some-same : {m n : ℕ} → Some m ≡ Some n → m ≡ n
+        some-same e = cc
+
+        apart : ◌≡◌ {A = ℕ} 0 1 → ⊥
+        apart h = omega (arith, h)
+
+pub first-in : (xs : List ℕ) (x : ℕ) → Some x ≡ first_of xs → has x xs ≡ true
+first-in [] x e = cc
+first-in (y ∷ ys) x e = let s : y ≡ x = cc in subst (λ (k : ℕ). has k (y ∷ ys) ≡ true) s (has-first y ys)
+
+-- no thread is seen of empty lists
+pub none-shown : (al qs : Lists) (bs : List Waiter) → list_at al 0 ≡ [] → list_count qs ≡ 6 → ((k : ℕ) → list_at qs k ≡ []) → slotted al qs bs ≡ nothing
+none-shown al qs bs live count empty =
+    ap (λ (ids : List ℕ). record { live = map (number_at bs) ids; queues = map (λ ids. map (block_at bs) ids) qs.lists }) live
+    ∙ ap (λ (ls : List (List ℕ)). record { live = []; queues = map (λ ids. map (block_at bs) ids) ls }) (same-at qs.lists ([] ∷ [] ∷ [] ∷ [] ∷ [] ∷ [] ∷ []) count (λ k. empty k ∙ sym (none k)))
+  where
+    none : (k : ℕ) → get_or {A = List ℕ} ([] ∷ [] ∷ [] ∷ [] ∷ [] ∷ [] ∷ []) k [] ≡ []
+    none zero = refl
+    none (suc zero) = refl
+    none (suc (suc zero)) = refl
+    none (suc (suc (suc zero))) = refl
+    none (suc (suc (suc (suc zero)))) = refl
+    none (suc (suc (suc (suc (suc zero))))) = refl
+    none (suc (suc (suc (suc (suc (suc k)))))) = refl

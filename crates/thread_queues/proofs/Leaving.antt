@@ -1,0 +1,112 @@
+-- The lists, blocks and limits stand for the threads, as a thread leaves a queue.
+use Rattle.std.proofs.Common.{◌≡◌, ◌∙◌, ℕ, ◌<◌, ◌==◌, true, false, List, [], length, map, get_or, refl, ap, sym, subst, arith, inl, inr, Option, Some, None, IsSome}
+use Rattle.std.proofs.Math.ListN.{set}
+use Rattle.std.specs.List.{filter, find}
+use Rattle.std.proofs.lemmas.List.{get_or-set_same, get_or-set_other, length-set, length-map}
+use Rattle.std.proofs.lemmas.Bool.{cases_eq, eq-eqb, ne_eqb}
+use Rattle.link_lists.specs.Lists.{Lists, list_at, home_at, ListBecomes, HomeBecomes, SameCounts, IsSound, has, without}
+use Rattle.thread_queues.specs.declared.event.Due.{Due}
+use Rattle.thread_queues.specs.declared.event.Waiter.{Waiter}
+use Rattle.thread_queues.specs.Firsts.{due_at}
+use Rattle.thread_queues.specs.Placed.{without_first}
+use Rattle.thread_queues.specs.Slotted.{limit_in, queue_at, taken_from}
+use Rattle.thread_queues.specs.Laid.{block_at, number_at, bucket_of, slotted, IsLaid}
+use Rattle.thread_queues.proofs.Ids.{filter-without, without-first-map, find-map}
+use Rattle.thread_queues.proofs.Moving.{taken-lists, map-lists, same-at}
+
+-- an id was taken out of the list that it was in
+pub record IsUnlinked (old new : Lists) (l x : ℕ) : Type 0 where
+  pub list : ListBecomes old new l (without x (list_at old l))
+  pub home : HomeBecomes old new x None
+  pub counts : SameCounts old new
+  pub sound : IsSound new
+
+module _ (al qs bu : Lists) (bs : List Waiter) (li : List (Option Due)) (id_of : ℕ → Option ℕ) (laid : IsLaid al qs bu bs li id_of)
+    (qs' bu' : Lists) (q b x : ℕ) (here : home_at qs x ≡ Some q) (there : home_at bu x ≡ Some b) (out : IsUnlinked qs qs' q x) (gone : IsUnlinked bu bu' b x) where
+  same-some : (m n : ℕ) → Some m ≡ Some n → m ≡ n
+  same-some m n e = cc
+
+  none-some : (o : Option ℕ) (l : ℕ) → o ≡ None → o ≡ Some l → ⊥
+  none-some o l e f = cc
+
+  low : q < 6
+  low = omega (arith, (laid.queues_sound.there q x here).0, laid.queue_count)
+
+  -- another one there has another number
+  others : (y : ℕ) → has y (list_at qs q) ≡ true → (y ≡ x → ⊥) → (number_at bs y == number_at bs x) ≡ false
+  others y h ne = ne_eqb (number_at bs y) (number_at bs x) (λ e.
+      let fy = (laid.found (number_at bs x) y).1 (laid.lives y q ((laid.queues_sound.home q y).1 h), e) in
+      let fx = (laid.found (number_at bs x) x).1 (laid.lives x q here, refl) in
+      ne (same-some y x (sym fy ∙ fx)))
+
+  in-queue : has x (list_at qs q) ≡ true
+  in-queue = (laid.queues_sound.home q x).0 here
+
+  pub take-found : find (λ w. w.thread == number_at bs x) (queue_at (slotted al qs bs) q) ≡ Some (block_at bs x)
+  take-found = ap (find (λ w. w.thread == number_at bs x)) (map-lists (map (block_at bs)) qs.lists q refl)
+      ∙ find-map (block_at bs) (λ w. w.thread == number_at bs x) x (list_at qs q) in-queue (eq-eqb (number_at bs x) (number_at bs x) refl) others
+
+  take-at : (k : ℕ) → get_or (map (λ ids. map (block_at bs) ids) qs'.lists) k [] ≡ get_or (set (map (λ ids. map (block_at bs) ids) qs.lists) q (without_first (λ w. w.thread == number_at bs x) (get_or (map (λ ids. map (block_at bs) ids) qs.lists) q []))) k []
+  take-at k = map-lists (map (block_at bs)) qs'.lists k refl ∙ elim (cases_eq k q) [
+    | inl e ↦ subst (λ (j : ℕ). map (block_at bs) (list_at qs' j) ≡ get_or (set olds q rest) j []) (sym e) (
+        ap (map (block_at bs)) out.list.this
+        ∙ without-first-map (block_at bs) (λ w. w.thread == number_at bs x) x (list_at qs q) (laid.queues_sound.once q) in-queue (eq-eqb (number_at bs x) (number_at bs x) refl) others
+        ∙ ap (without_first (λ w. w.thread == number_at bs x)) (sym (map-lists (map (block_at bs)) qs.lists q refl))
+        ∙ sym (get_or-set_same olds q rest [] there-q))
+    | inr ne ↦ ap (map (block_at bs)) (out.list.others k ne) ∙ sym (map-lists (map (block_at bs)) qs.lists k refl) ∙ sym (get_or-set_other olds q k rest [] ne)
+  ]
+    where
+      olds : List (List Waiter)
+      olds = map (λ ids. map (block_at bs) ids) qs.lists
+
+      rest : List Waiter
+      rest = without_first (λ w. w.thread == number_at bs x) (get_or olds q [])
+
+      there-q : q < length olds
+      there-q = omega (arith, low, laid.queue_count, length-map qs.lists (λ ids. map (block_at bs) ids))
+
+  pub take-shown : slotted al qs' bs ≡ taken_from (slotted al qs bs) q (number_at bs x)
+  take-shown = ap (λ (ls : List (List Waiter)). record { live = map (number_at bs) (list_at al 0); queues = ls })
+      (same-at (map (λ ids. map (block_at bs) ids) qs'.lists) (set (map (λ ids. map (block_at bs) ids) qs.lists) q (without_first (λ w. w.thread == number_at bs x) (get_or (map (λ ids. map (block_at bs) ids) qs.lists) q [])))
+      (length-map qs'.lists (λ ids. map (block_at bs) ids) ∙ out.counts.lists ∙ sym (length-set (map (λ ids. map (block_at bs) ids) qs.lists) q (without_first (λ w. w.thread == number_at bs x) (get_or (map (λ ids. map (block_at bs) ids) qs.lists) q [])) ∙ length-map qs.lists (λ ids. map (block_at bs) ids)))
+      take-at)
+
+  take-bucketed : (c : ℕ) → c < 263 → list_at bu' c ≡ filter (λ y. bucket_of (block_at bs y).event == c) (list_at qs' 4)
+  take-bucketed c lt =
+      taken-lists bu bu' b x laid.buckets_sound there gone.list c ∙ ap (without x) (laid.bucketed c lt)
+      ∙ sym (filter-without (λ y. bucket_of (block_at bs y).event == c) x (list_at qs 4))
+      ∙ ap (filter (λ y. bucket_of (block_at bs y).event == c)) (sym (taken-lists qs qs' q x laid.queues_sound here out.list 4))
+
+  take-limited : (y : ℕ) → due_at (set li x None) y ≡ limit_in (home_at qs' y) (block_at bs y)
+  take-limited y = elim (cases_eq y x) [
+    | inl e ↦ subst (λ (z : ℕ). due_at (set li x None) z ≡ limit_in (home_at qs' z) (block_at bs z)) (sym e)
+        (get_or-set_same li x None None (omega (arith, (laid.alive_sound.there 0 x (laid.lives x q here)).1, laid.limits_room)) ∙ ap (λ (o : Option ℕ). limit_in o (block_at bs x)) (sym out.home.this))
+    | inr ne ↦ get_or-set_other li x y None None ne ∙ laid.limited y ∙ ap (λ (o : Option ℕ). limit_in o (block_at bs y)) (sym (out.home.others y ne))
+  ]
+
+  -- an id that is in a queue still was in it before, and is another one
+  still : (y p : ℕ) → home_at qs' y ≡ Some p → (home_at qs y ≡ Some p) × (y ≡ x → ⊥)
+  still y p e = elim (cases_eq y x) [
+    | inl s ↦ absurd (none-some (home_at qs' y) p (ap (home_at qs') s ∙ out.home.this) e)
+    | inr ne ↦ (sym (out.home.others y ne) ∙ e, ne)
+  ]
+
+  pub take-laid : IsLaid al qs' bu' bs (set li x None) id_of
+  take-laid = record {
+    alive_sound = laid.alive_sound;
+    queues_sound = out.sound;
+    buckets_sound = gone.sound;
+    alive_count = laid.alive_count;
+    queue_count = out.counts.lists ∙ laid.queue_count;
+    bucket_count = gone.counts.lists ∙ laid.bucket_count;
+    queues_room = omega (arith, laid.queues_room, out.counts.ids);
+    buckets_room = omega (arith, laid.buckets_room, gone.counts.ids);
+    blocks_room = laid.blocks_room;
+    limits_room = omega (arith, laid.limits_room, length-set {A = Option Due} li x None);
+    lives = λ y p e. laid.lives y p (still y p e).0;
+    found = laid.found;
+    unbucketed = λ y e. elim (cases_eq y x) [ inl s ↦ ap (home_at bu') s ∙ gone.home.this | inr ne ↦ gone.home.others y ne ∙ laid.unbucketed y (sym (out.home.others y ne) ∙ e) ];
+    in_bucket = λ y p e. let s = still y p e in subst (λ (o : Option ℕ). IsSome o) (sym (gone.home.others y s.1)) (laid.in_bucket y p s.0);
+    bucketed = take-bucketed;
+    limited = take-limited;
+  }

@@ -1,0 +1,82 @@
+-- Along a list of ids, from one on.
+use Rattle.std.proofs.Common.{◌≡◌, ◌∙◌, ℕ, ◌<◌, ◌==◌, Bool, true, false, cond, List, [], ◌∷◌, ◌++◌, length, map, refl, ap, sym, subst, arith, inl, inr, append_assoc, Option, Some, None}
+use Rattle.std.specs.List.{find}
+use Rattle.std.proofs.lemmas.Bool.Decides.{eqb_tells}
+use Rattle.link_lists.specs.Lists.{has, Once, first_of, behind}
+use Rattle.link_lists.proofs.Calls.{behind-parts}
+use Rattle.link_lists.proofs.Members.{has-first, has-later, has-both, has-left, not-has, same_test, parts-at, once-middle}
+
+-- the ids from this one on; none from none on
+abbrev pub from : Option ℕ → List ℕ → List ℕ
+from None xs = []
+from (Some x) [] = []
+from (Some x) (y ∷ ys) = cond (y == x) (y ∷ ys) (from (Some x) ys)
+
+from-parts : (x : ℕ) (ys zs : List ℕ) → has x ys ≡ false → from (Some x) (ys ++ x ∷ zs) ≡ x ∷ zs
+from-parts x [] zs h = ap (λ (b : Bool). cond b (x ∷ zs) (from (Some x) zs)) (same_test x)
+from-parts x (y ∷ ys) zs h = elim (eqb_tells y x) as (λ v. from (Some x) (y ∷ (ys ++ x ∷ zs)) ≡ x ∷ zs) [
+  | inl t ↦ absurd (has-both x (y ∷ ys) (subst (λ (k : ℕ). has k (y ∷ ys) ≡ true) t.1 (has-first y ys)) h)
+  | inr f ↦ ap (λ (b : Bool). cond b (y ∷ (ys ++ x ∷ zs)) (from (Some x) (ys ++ x ∷ zs))) f.0 ∙ from-parts x ys zs (not-has x ys (λ k. has-both x (y ∷ ys) (has-later x y ys k) h))
+]
+
+left-out : (x : ℕ) (ys zs : List ℕ) → has x (ys ++ zs) ≡ false → has x ys ≡ false
+left-out x ys zs h = not-has x ys (λ k. has-both x (ys ++ zs) (has-left x ys zs k) h)
+
+from-rest : (x : ℕ) (ys zs : List ℕ) → Once (ys ++ x ∷ zs) → from (first_of zs) (ys ++ x ∷ zs) ≡ zs
+from-rest x ys [] once = refl
+from-rest x ys (z ∷ zs) once =
+    let e : ys ++ x ∷ (z ∷ zs) ≡ (ys ++ x ∷ []) ++ z ∷ zs = sym (append_assoc ys (x ∷ []) (z ∷ zs)) in
+    ap (from (Some z)) e ∙ from-parts z (ys ++ x ∷ []) zs (left-out z (ys ++ x ∷ []) zs (once-middle z (ys ++ x ∷ []) zs (subst (λ (l : List ℕ). Once l) e once)))
+
+-- one step along the list
+pub record IsStep (x : ℕ) (xs : List ℕ) : Type 0 where
+  pub rest : List ℕ
+  pub here : from (Some x) xs ≡ x ∷ rest
+  pub next : from (behind x xs) xs ≡ rest
+  pub at : behind x xs ≡ first_of rest
+
+pub step : (x : ℕ) (xs : List ℕ) → Once xs → has x xs ≡ true → IsStep x xs
+step x xs once h =
+    let p = parts-at x xs h in
+    let apart = left-out x p.0 p.1 (once-middle x p.0 p.1 (subst (λ (l : List ℕ). Once l) p.2 once)) in
+    let at : behind x xs ≡ first_of p.1 = ap (behind x) p.2 ∙ behind-parts x p.0 p.1 apart in
+    record {
+      rest = p.1;
+      here = ap (from (Some x)) p.2 ∙ from-parts x p.0 p.1 apart;
+      next = ap (λ (o : Option ℕ). from o xs) at ∙ ap (from (first_of p.1)) p.2 ∙ from-rest x p.0 p.1 (subst (λ (l : List ℕ). Once l) p.2 once);
+      at = at;
+    }
+
+-- an id from which there are some is among them
+pub from-has : (x : ℕ) (xs : List ℕ) → Some x ≡ first_of (from (Some x) xs) → has x xs ≡ true
+from-has x [] e = cc
+from-has x (y ∷ ys) e = elim (eqb_tells y x) as (λ v. has x (y ∷ ys) ≡ true) [
+  | inl t ↦ subst (λ (k : ℕ). has k (y ∷ ys) ≡ true) t.1 (has-first y ys)
+  | inr f ↦ has-later x y ys (from-has x ys (e ∙ ap first_of (ap (λ (b : Bool). cond b (y ∷ ys) (from (Some x) ys)) f.0)))
+]
+
+-- one step of a walk, at an id
+pub record IsWalked (o : Option ℕ) (id : ℕ) (xs : List ℕ) : Type 0 where
+  pub has : has id xs ≡ true
+  pub rest : List ℕ
+  pub here : from o xs ≡ id ∷ rest
+  pub next : from (behind id xs) xs ≡ rest
+  pub at : behind id xs ≡ first_of (from (behind id xs) xs)
+
+pub walked : (xs : List ℕ) (o : Option ℕ) (id : ℕ) → Once xs → o ≡ Some id → o ≡ first_of (from o xs) → IsWalked o id xs
+walked xs o id once is at =
+    let member = from-has id xs (sym is ∙ at ∙ ap (λ (p : Option ℕ). first_of (from p xs)) is) in
+    let s = step id xs once member in
+    record { has = member; rest = s.rest; here = ap (λ (p : Option ℕ). from p xs) is ∙ s.here; next = s.next; at = s.at ∙ ap first_of (sym s.next) }
+
+pub walk-map : {X : Type 0} (f : ℕ → X) (xs : List ℕ) (o : Option ℕ) (id : ℕ) → IsWalked o id xs → map f (from o xs) ≡ f id ∷ map f (from (behind id xs) xs)
+walk-map {X} f xs o id w = ap (map f) w.here ∙ ap (λ (ys : List ℕ). f id ∷ map f ys) (sym w.next)
+
+pub walk-found : {X : Type 0} (f : ℕ → X) (p : X → Bool) (xs : List ℕ) (o : Option ℕ) (id : ℕ) → IsWalked o id xs → p (f id) ≡ true → find p (map f (from o xs)) ≡ Some (f id)
+walk-found {X} f p xs o id w h = ap (find p) (walk-map f xs o id w) ∙ ap (λ (b : Bool). cond b (Some (f id)) (find p (map f (from (behind id xs) xs)))) h
+
+pub walk-passed : {X : Type 0} (f : ℕ → X) (p : X → Bool) (xs : List ℕ) (o : Option ℕ) (id : ℕ) → IsWalked o id xs → p (f id) ≡ false → find p (map f (from (behind id xs) xs)) ≡ find p (map f (from o xs))
+walk-passed {X} f p xs o id w h = sym (ap (find p) (walk-map f xs o id w) ∙ ap (λ (b : Bool). cond b (Some (f id)) (find p (map f (from (behind id xs) xs)))) h)
+
+pub walk-shorter : (xs : List ℕ) (o : Option ℕ) (id : ℕ) → IsWalked o id xs → length (from (behind id xs) xs) < length (from o xs)
+walk-shorter xs o id w = let a = ap length w.here in let b = ap length w.next in omega (arith, a, b)

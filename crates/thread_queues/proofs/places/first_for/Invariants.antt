@@ -1,7 +1,0 @@
-use Rattle.std.proofs.Common.{◌≡◌, ◌<◌, ℕ, false, get_or}
-use Rattle.thread_queues.specs.Events.{is_event}
-use Rattle.thread_queues.specs.declared.event.Waiter.{Waiter}
-use Rattle.thread_queues.proofs.places.first_for.Given as goal
-
-abbrev pub invariant-loop-i : goal.invariant-loop-i
-invariant-loop-i l = (k : ℕ) (d : Waiter) → k < l.i → is_event (get_or l.waits k d).event l.event ≡ false

@@ -1,0 +1,317 @@
+//! Live threads in queues, each in at most one.
+//!
+//! Each live thread has a block, found by the thread's number; queues are lists of the blocks' places. The threads that wait stand also in
+//! buckets by their events, each bucket in the order of waiting, so that the first one for an event is found with few looks.
+ghost use Rattle.std.specs.Prelude.{◌≡◌, ◌==◌, ◌<◌, ◌≤◌, ◌+◌, ◌↔◌, ℕ, true, None, Some, IfOk, OnOk, OnErr, IsTrue, find, map, length, slice_get, option_map};
+ghost use Rattle.link_lists.specs.Lists.{list_at, list_count, has};
+ghost use Rattle.thread_queues.specs.Events.{is_event};
+ghost use Rattle.thread_queues.specs.Placed.{times};
+ghost use Rattle.thread_queues.specs.Slotted.{queue_at, threads_of, nothing, put_in, taken_from, popped_from, with_thread, without_thread, limit_in, IsApart, IsFirstOf};
+ghost use Rattle.thread_queues.specs.Laid.{block_at, bucket_of, bucket_in};
+
+use crate::event::{Due, Event, Waiter, same_event};
+use crate::limits::Limits;
+use ids_base::class::Class;
+use ids_base::numbers::ThreadNo;
+use link_lists::Lists;
+use std::alloc::{AllocError, Global};
+use std::collections::HashMap;
+use std::marker::Model;
+
+/// The places of live threads, and those that no thread has.
+const LIVE: u32 = 0;
+
+const FREE: u32 = 1;
+
+/// The queue of the threads that wait.
+pub const WAITS: u32 = 4;
+
+/// How many queues there are.
+const QUEUES: u32 = 6;
+
+/// The bucket of those that do not wait, and how many buckets there are.
+const OTHERS: u32 = 263;
+
+const BUCKETS: u32 = 264;
+
+/// Live threads in six queues.
+#[derive(Drop)]
+pub struct Slots {
+    alive: Lists,
+    queues: Lists,
+    buckets: Lists,
+    blocks: Vec<Waiter>,
+    limits: Limits,
+    numbers: HashMap<ThreadNo, u32>,
+}
+
+impl Model for Slots {
+    ghost use Rattle.thread_queues.specs.Slotted.{Slotted};
+
+    ghost Value = { Slotted };
+
+    ghost use Rattle.std.specs.Prelude.{nat_eq};
+    ghost use Rattle.std.specs.HashMap.{get};
+    ghost use Rattle.thread_queues.specs.Laid.{slotted, IsLaid};
+
+    ghost view = { λ a. slotted a.alive a.queues a.blocks.items };
+
+    ghost invariant = { λ a. IsLaid a.alive a.queues a.buckets a.blocks.items a.limits (get nat_eq a.numbers) };
+}
+
+impl Slots {
+    /// No thread.
+    pub fn new(alloc: Global) -> Result<Self, AllocError>
+        ensures { IfOk result (λ s. s ≡ nothing) }
+    {
+        let alive = Lists::new(alloc, 2)?;
+        let queues = Lists::new(alloc, QUEUES)?;
+        let buckets = Lists::new(alloc, BUCKETS)?;
+        Ok(Self {
+            alive,
+            queues,
+            buckets,
+            blocks: Vec::new(alloc),
+            limits: Limits::new(alloc),
+            numbers: HashMap::new(alloc),
+        })
+    }
+
+    /// A thread that lives, in no queue. Where there is no memory, all is as it was.
+    pub fn add(&mut self, thread: ThreadNo) -> Result<(), AllocError>
+        requires { times thread self.old.live ≡ 0 }
+        ensures added { OnOk result (self.new ≡ with_thread self.old thread) }
+        ensures unchanged { OnErr result (self.new ≡ self.old) }
+    {
+        if self.alive.front(FREE).is_none() {
+            self.grow()?;
+        }
+        let Some(id) = self.alive.front(FREE) else {
+            return Err(AllocError);
+        };
+        self.numbers.insert(thread, id)?;
+        self.alive.unlink(id);
+        self.alive.push_back(LIVE, id);
+        self.blocks[id as usize] = Waiter {
+            event: Event::Lock,
+            thread,
+            class: Class::Cpu,
+            due: None,
+        };
+        Ok(())
+    }
+
+    /// One place more that no thread has.
+    fn grow(&mut self) -> Result<(), AllocError>
+        ensures { self.new ≡ self.old }
+    {
+        self.blocks.push(Waiter {
+            event: Event::Lock,
+            thread: 0,
+            class: Class::Cpu,
+            due: None,
+        })?;
+        self.limits.add()?;
+        self.queues.add_id()?;
+        self.buckets.add_id()?;
+        let id = self.alive.add_id()?;
+        self.alive.push_back(FREE, id);
+        Ok(())
+    }
+
+    /// A thread that lives no more.
+    pub fn remove(&mut self, thread: ThreadNo)
+        requires lives { 0 < times thread self.old.live }
+        requires apart { IsApart self.old thread }
+        ensures { self.new ≡ without_thread self.old thread }
+    {
+        let Some(id) = self.numbers.remove(&thread) else {
+            unreachable!()
+        };
+        self.alive.unlink(id);
+        self.alive.push_back(FREE, id);
+    }
+
+    /// A thread goes to the end of a queue.
+    pub fn put(&mut self, queue: u32, waiter: Waiter)
+        requires queue { queue < 6 }
+        requires lives { 0 < times waiter.thread self.old.live }
+        requires apart { IsApart self.old waiter.thread }
+        ensures { self.new ≡ put_in self.old queue waiter }
+    {
+        let Some(id) = self.numbers.get(&waiter.thread) else {
+            unreachable!()
+        };
+        let id = *id;
+        self.blocks[id as usize] = waiter;
+        self.queues.push_back(queue, id);
+        self.buckets.push_back(bucket_in(queue, waiter.event), id);
+        self.limits.set(id as usize, limit_in(queue, waiter));
+    }
+
+    /// A thread leaves its queue.
+    pub fn take(&mut self, queue: u32, thread: ThreadNo) -> Waiter
+        requires { 0 < times thread (threads_of (queue_at self.old queue)) }
+        ensures waiter { find (λ w. w.thread == thread) (queue_at self.old queue) ≡ Some result }
+        ensures rest { self.new ≡ taken_from self.old queue thread }
+    {
+        let Some(id) = self.numbers.get(&thread) else {
+            unreachable!()
+        };
+        let id = *id;
+        self.queues.unlink(id);
+        self.buckets.unlink(id);
+        self.limits.set(id as usize, None);
+        self.blocks[id as usize]
+    }
+
+    /// The first thread of a queue leaves it, if there is one.
+    pub fn pop(&mut self, queue: u32) -> Option<ThreadNo>
+        requires { queue < 6 }
+        ensures head { result ≡ slice_get (threads_of (queue_at self.old queue)) 0 }
+        ensures rest { self.new ≡ popped_from self.old queue }
+    {
+        let first = self.queues.front(queue)?;
+        let thread = self.blocks[first as usize].thread;
+        self.take(queue, thread);
+        Some(thread)
+    }
+
+    /// The thread that waits longest for an event.
+    pub fn first_for(&self, event: Event) -> Option<ThreadNo>
+        ensures { result
+            ≡ option_map (λ w. w.thread) (find (λ w. is_event w.event event) (queue_at self.now 4)) }
+    {
+        first_of_bucket(&self.buckets, bucket_of(event), &self.blocks, event)
+    }
+
+    /// Whether a thread stands in a queue.
+    pub fn stands(&self, queue: u32, thread: ThreadNo) -> bool
+        ensures { IsTrue result ↔ (0 < times thread (threads_of (queue_at self.now queue))) }
+    {
+        match self.numbers.get(&thread) {
+            Some(id) => is_home(self.queues.home(*id), queue),
+            None => false,
+        }
+    }
+
+    /// Whether a thread lives.
+    pub fn lives(&self, thread: ThreadNo) -> bool
+        ensures { IsTrue result ↔ (0 < times thread self.now.live) }
+    {
+        self.numbers.get(&thread).is_some()
+    }
+
+    /// A queue, from its head on.
+    pub fn list(&self, alloc: Global, queue: u32) -> Result<Vec<Waiter>, AllocError>
+        requires { queue < 6 }
+        ensures { IfOk result (λ v. v.items ≡ queue_at self.now queue) }
+    {
+        listed(alloc, &self.queues, queue, &self.blocks)
+    }
+
+    /// The first of all limits of threads in queues.
+    pub fn first_limit(&self) -> Option<Due>
+        ensures { IsFirstOf self.now result }
+    {
+        self.limits.first()
+    }
+}
+
+/// Whether this list is the one.
+fn is_home(home: Option<u32>, list: u32) -> bool
+    ensures { IsTrue result ↔ (home ≡ Some list) }
+{
+    match home {
+        Some(other) => other == list,
+        None => false,
+    }
+}
+
+/// The blocks of a list of ids, from its front on.
+fn listed(
+    alloc: Global,
+    lists: &Lists,
+    list: u32,
+    blocks: &[Waiter],
+) -> Result<Vec<Waiter>, AllocError>
+    requires there { list < list_count lists.now }
+    requires blocks { (x : ℕ) → has x (list_at lists.now list) ≡ true → x < length blocks.now }
+    ensures { IfOk result (λ v. v.items ≡ map (block_at blocks.now) (list_at lists.now list)) }
+{
+    let mut out = Vec::new(alloc);
+    let mut at = lists.front(list);
+    while let Some(id) = at {
+        out.push(blocks[id as usize])?;
+        at = lists.next(id);
+    }
+    Ok(out)
+}
+
+/// The thread of the first block for an event in a list of ids.
+fn first_of_bucket(lists: &Lists, list: u32, blocks: &[Waiter], event: Event) -> Option<ThreadNo>
+    requires there { list < list_count lists.now }
+    requires blocks { (x : ℕ) → has x (list_at lists.now list) ≡ true → x < length blocks.now }
+    ensures { result
+        ≡ option_map (λ w. w.thread) (find (λ w. is_event w.event event) (map (block_at blocks.now) (list_at lists.now list))) }
+{
+    let mut at = lists.front(list);
+    while let Some(id) = at {
+        let waiter = blocks[id as usize];
+        if same_event(waiter.event, event) {
+            return Some(waiter.thread);
+        }
+        at = lists.next(id);
+    }
+    None
+}
+
+/// The bucket of a thread in a queue.
+fn bucket_in(queue: u32, event: Event) -> u32
+    ensures bucket { result ≡ bucket_in queue event }
+    ensures in_range { result < 264 }
+{
+    if queue == WAITS {
+        bucket_of(event)
+    } else {
+        OTHERS
+    }
+}
+
+/// The bucket of an event.
+fn bucket_of(event: Event) -> u32
+    ensures bucket { result ≡ bucket_of event }
+    ensures in_range { result < 263 }
+{
+    match event {
+        Event::Lock => 0,
+        Event::LogFlush => 1,
+        Event::PhysFlush => 2,
+        Event::LogSpace => 3,
+        Event::Checkpoint => 4,
+        Event::Critical => 5,
+        Event::Cleaning => 6,
+        Event::Latch(frame) => 7 + frame % 128,
+        Event::Page(page) => 135 + page % 128,
+    }
+}
+
+/// When a thread in a queue is due: never in a ready queue, and always where it sleeps.
+fn limit_in(queue: u32, waiter: Waiter) -> Option<Due>
+    ensures { result ≡ limit_in (Some queue) waiter }
+{
+    if queue < WAITS {
+        return None;
+    }
+    if queue > WAITS {
+        return Some(Due {
+            tick: waiter.due.unwrap_or(0),
+            thread: waiter.thread,
+        });
+    }
+    let tick = waiter.due?;
+    Some(Due {
+        tick,
+        thread: waiter.thread,
+    })
+}
