@@ -1,5 +1,9 @@
-use Rattle.std.proofs.Common.{arith}
+use Rattle.std.proofs.Common.{◌≡◌, ◌∙◌, ap, arith, sym, true}
+use Rattle.std.specs.List.{filter}
 use Rattle.lock_table.specs.Book.{table_of}
+use Rattle.lock_table.specs.Chains.{is_named}
+use Rattle.lock_table.specs.Table.{has_thread, holders}
+use Rattle.lock_table.proofs.Lines.{told-holds}
 use Rattle.lock_table.proofs.Table.{told-either}
 use Rattle.lock_table.proofs.locks.Locks.next_granted.Goals as goal
 
@@ -11,3 +15,8 @@ invariant_of-self c =
     let h = c.self.invariant.held_room in
     let w = c.self.invariant.waiting_room in
     record { sound = k.0; held_room = omega (arith, e, h); waiting_room = omega (arith, e, w) }
+
+pub returns-clause-told_hold : goal.returns-clause-told_hold
+returns-clause-told_hold c = λ thread name h.
+    ap (λ t. has_thread thread (holders t name)) (sym c.self.view_is)
+    ∙ told-holds c.self.inside.book thread name (ap (λ t. has_thread thread (filter (is_named name) t.granted)) c.self.view_is ∙ h)
