@@ -1,7 +1,10 @@
 -- Trees of threads found along waits.
-use Rattle.std.proofs.Common.{◌≡◌, ◌≢◌, ◌∙◌, sym, ap, subst, refl, ℕ, zero, suc, ◌+◌, ◌<◌, ◌==◌, Bool, true, false, ◌||◌, List, [], ◌∷◌, ◌++◌, length, slice_index, arith, ◌⊎◌, inl, inr}
+use Rattle.std.proofs.Common.{◌≡◌, ◌≢◌, ◌∙◌, sym, ap, subst, refl, ℕ, zero, suc, ◌+◌, ◌<◌, ◌==◌, Bool, true, false, if◌then◌else◌, nat_eq, ◌||◌, List, [], ◌∷◌, ◌++◌, length, reverse, slice_index, arith, ◌⊎◌, inl, inr}
 use Rattle.std.proofs.lemmas.Bool.Decides.{eqb_tells, Decides-eqb}
-use Rattle.std.proofs.lemmas.List.{length_push}
+use Rattle.std.proofs.lemmas.Bool.{ne_eqb}
+use Rattle.std.proofs.lemmas.List.{length_push, reverse-append}
+use Rattle.std.specs.List.{list_any}
+use Rattle.indexmap.specs.IndexSet.{insert_key}
 use Rattle.ids_base.specs.Waits.{WaitInTurn}
 use Rattle.wait_graph.specs.Cycles.{IsCycle, Once}
 use Rattle.wait_graph.specs.Targets.{among}
@@ -40,6 +43,18 @@ pub at-among : (xs : List ℕ) (j : ℕ) → j < length xs → among (slice_inde
 at-among [] j lt = absurd (omega arith)
 at-among (x ∷ xs) zero lt = among-first x xs
 at-among (x ∷ xs) (suc j) lt = among-later (slice_index xs j) x xs (at-among xs j (omega arith))
+
+eqb-either : (a b : ℕ) → (a == b) ≡ (b == a)
+eqb-either a b = elim (eqb_tells a b) as (λ v. (a == b) ≡ (b == a))
+    [ inl t ↦ t.0 ∙ sym ((Decides-eqb b a).1 (sym t.1)) | inr f ↦ f.0 ∙ sym (ne_eqb b a (λ e. f.1 (sym e))) ]
+
+-- whom a look finds
+pub among-either : (b : ℕ) (xs : List ℕ) → list_any (λ x. b == x) xs ≡ among b xs
+among-either b [] = refl
+among-either b (x ∷ xs) = ap (λ c. c || list_any (λ y. b == y) xs) (eqb-either b x) ∙ ap (λ c. (x == b) || c) (among-either b xs)
+
+pub insert-new : (b : ℕ) (xs : List ℕ) → among b xs ≡ false → insert_key nat_eq xs b ≡ xs ++ b ∷ []
+insert-new b xs h = ap (λ c. if c then xs else xs ++ b ∷ []) (among-either b xs ∙ h)
 
 pub push-old : (xs : List ℕ) (y j : ℕ) → j < length xs → slice_index (xs ++ y ∷ []) j ≡ slice_index xs j
 push-old [] y j lt = absurd (omega arith)
@@ -140,6 +155,14 @@ tail-more next start found parents at path t pos lt i =
       below = λ j jl. not-among (slice_index found j) (slice_index found up ∷ path) (λ h. elim (among-cons _ _ path h) as (λ v. ⊥)
           [ inl e ↦ t.apart j up jl (let q = p.0 in omega (arith, q, lt)) (sym e) | inr r ↦ let b = i.below j (let q = p.0 in omega (arith, q, jl)) in cc ]);
     }
+
+-- the same, where the path is kept from its end on
+pub tail-pushed : (next : ℕ → List ℕ) (start : ℕ) (found parents : List ℕ) (at up : ℕ) (path new : List ℕ) → IsTree next start found parents → 0 < at → at < length found → up ≡ slice_index parents at
+    → new ≡ path ++ slice_index found up ∷ [] → IsTail next start found at (reverse path) → IsTail next start found up (reverse new)
+tail-pushed next start found parents at up path new t pos lt e g i =
+    subst (λ v. IsTail next start found up (reverse v)) (sym g)
+    (subst (λ v. IsTail next start found up v) (sym (reverse-append path (slice_index found up ∷ [])))
+    (subst (λ n. IsTail next start found n (slice_index found n ∷ reverse path)) (sym e) (tail-more next start found parents at (reverse path) t pos lt i)))
 
 pub tail-whole : (next : ℕ → List ℕ) (start : ℕ) (found parents : List ℕ) (at : ℕ) (path : List ℕ) → IsTree next start found parents → at ≡ 0 → IsTail next start found at path → IsCycle (Waits next) start path
 tail-whole next start found parents at path t e i = record {

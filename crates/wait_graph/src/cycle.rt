@@ -14,8 +14,8 @@ use std::alloc::{AllocError, Global};
 /// requester, each waits for the next and the last for the first. None exactly where waiting would close no cycle.
 ///
 /// It takes memory for the holders and waiters of one name at a time, and for the threads that the request waits for by any
-/// number of steps. It costs for each of these threads the holders and waiters of the name that it waits for, each times the
-/// threads found.
+/// number of steps. It costs `Locks::queue_with`, and for each of these threads the entries that share the bucket of the name that
+/// it waits for, with at most two hash looks for each one that is against it.
 pub fn closes_cycle(
     alloc: Global,
     locks: &Locks,

@@ -6,24 +6,26 @@ ghost use Rattle.wait_graph.specs.Search.{Waits, IsTree, IsClosedAt, IsLonger, A
 
 use crate::next::{Asked, next};
 use ids_base::numbers::ThreadNo;
+use indexmap::IndexSet;
 use lock_table::Locks;
 use std::alloc::{AllocError, Global};
 
-// The threads found, and for each the place of the one that it was found from. `most` bounds how many there can be.
+// The threads found, in the order of finding, and for each the place of the one that it was found from. There are at most `most`.
 #[derive(Drop)]
 struct Found {
-    threads: Vec<ThreadNo>,
+    threads: IndexSet<ThreadNo>,
     parents: Vec<usize>,
     most: usize,
 }
 
-fn is_among(thread: ThreadNo, threads: &[ThreadNo]) -> bool
-    ensures { result ≡ among thread threads.now }
+// Whether a thread is among these. It costs one hash look.
+fn is_among(thread: ThreadNo, threads: &IndexSet<ThreadNo>) -> bool
+    ensures { result ≡ among thread threads.now.keys }
 {
-    threads.iter().any(|other| *other == thread)
+    threads.contains(&thread)
 }
 
-// Adds a thread that the one at place `from` waits for, unless it is there.
+// Adds a thread that the one at place `from` waits for, unless it is there. It costs two hash looks, and memory now and then.
 fn add(
     found: &mut Found,
     locks: &Locks,
@@ -31,23 +33,23 @@ fn add(
     from: usize,
     thread: ThreadNo,
 ) -> Result<(), AllocError>
-    requires tree { IsTree (next_of locks.now asked.now) asked.now.start found.old.threads.items found.old.parents.items }
-    requires from { from < length found.old.threads.items }
-    requires waits { Waits (next_of locks.now asked.now) (slice_index found.old.threads.items from) thread }
-    requires bounded { length found.old.threads.items ≤ found.old.most }
-    ensures tree { OnOk result (IsTree (next_of locks.now asked.now) asked.now.start found.new.threads.items found.new.parents.items) }
-    ensures there { OnOk result (among thread found.new.threads.items ≡ true) }
-    ensures longer { OnOk result (IsLonger found.old.threads.items found.new.threads.items) }
-    ensures bounded { OnOk result (length found.new.threads.items ≤ found.new.most) }
+    requires tree { IsTree (next_of locks.now asked.now) asked.now.start found.old.threads.keys found.old.parents.items }
+    requires from { from < length found.old.threads.keys }
+    requires waits { Waits (next_of locks.now asked.now) (slice_index found.old.threads.keys from) thread }
+    requires bounded { length found.old.threads.keys ≤ found.old.most }
+    ensures tree { OnOk result (IsTree (next_of locks.now asked.now) asked.now.start found.new.threads.keys found.new.parents.items) }
+    ensures there { OnOk result (among thread found.new.threads.keys ≡ true) }
+    ensures longer { OnOk result (IsLonger found.old.threads.keys found.new.threads.keys) }
+    ensures bounded { OnOk result (length found.new.threads.keys ≤ found.new.most) }
     ensures most { found.new.most ≡ found.old.most }
 {
-    if is_among(thread, found.threads.as_slice()) {
+    if is_among(thread, &found.threads) {
         return Ok(());
     }
     if found.threads.len() >= found.most {
         return Err(AllocError);
     }
-    found.threads.push(thread)?;
+    found.threads.insert(thread)?;
     found.parents.push(from)?;
     Ok(())
 }
@@ -60,16 +62,16 @@ fn add_all(
     at: usize,
     next: &[ThreadNo],
 ) -> Result<bool, AllocError>
-    requires start { slice_index found.old.threads.items 0 ≡ asked.now.start }
-    requires tree { IsTree (next_of locks.now asked.now) asked.now.start found.old.threads.items found.old.parents.items }
-    requires at { at < length found.old.threads.items }
-    requires waits { (j : ℕ) → j < length next.now → Waits (next_of locks.now asked.now) (slice_index found.old.threads.items at) (slice_index next.now j) }
-    requires bounded { length found.old.threads.items ≤ found.old.most }
-    ensures tree { OnOk result (IsTree (next_of locks.now asked.now) asked.now.start found.new.threads.items found.new.parents.items) }
+    requires start { slice_index found.old.threads.keys 0 ≡ asked.now.start }
+    requires tree { IsTree (next_of locks.now asked.now) asked.now.start found.old.threads.keys found.old.parents.items }
+    requires at { at < length found.old.threads.keys }
+    requires waits { (j : ℕ) → j < length next.now → Waits (next_of locks.now asked.now) (slice_index found.old.threads.keys at) (slice_index next.now j) }
+    requires bounded { length found.old.threads.keys ≤ found.old.most }
+    ensures tree { OnOk result (IsTree (next_of locks.now asked.now) asked.now.start found.new.threads.keys found.new.parents.items) }
     ensures closes { result ≡ Ok true → among asked.now.start next.now ≡ true }
-    ensures closed { result ≡ Ok false → AreAll asked.now.start found.new.threads.items next.now (length next.now) }
-    ensures longer { OnOk result (IsLonger found.old.threads.items found.new.threads.items) }
-    ensures bounded { OnOk result (length found.new.threads.items ≤ found.new.most) }
+    ensures closed { result ≡ Ok false → AreAll asked.now.start found.new.threads.keys next.now (length next.now) }
+    ensures longer { OnOk result (IsLonger found.old.threads.keys found.new.threads.keys) }
+    ensures bounded { OnOk result (length found.new.threads.keys ≤ found.new.most) }
     ensures most { found.new.most ≡ found.old.most }
 {
     for thread in next {
@@ -89,22 +91,22 @@ fn explore(
     asked: &Asked,
     at: usize,
 ) -> Result<bool, AllocError>
-    requires start { slice_index found.old.threads.items 0 ≡ asked.now.start }
-    requires tree { IsTree (next_of locks.now asked.now) asked.now.start found.old.threads.items found.old.parents.items }
-    requires at { at < length found.old.threads.items }
-    requires bounded { length found.old.threads.items ≤ found.old.most }
-    ensures tree { OnOk result (IsTree (next_of locks.now asked.now) asked.now.start found.new.threads.items found.new.parents.items) }
-    ensures closes { result ≡ Ok true → Waits (next_of locks.now asked.now) (slice_index found.old.threads.items at) asked.now.start }
-    ensures closed { result ≡ Ok false → IsClosedAt (next_of locks.now asked.now) asked.now.start found.new.threads.items at }
-    ensures longer { OnOk result (IsLonger found.old.threads.items found.new.threads.items) }
-    ensures bounded { OnOk result (length found.new.threads.items ≤ found.new.most) }
+    requires start { slice_index found.old.threads.keys 0 ≡ asked.now.start }
+    requires tree { IsTree (next_of locks.now asked.now) asked.now.start found.old.threads.keys found.old.parents.items }
+    requires at { at < length found.old.threads.keys }
+    requires bounded { length found.old.threads.keys ≤ found.old.most }
+    ensures tree { OnOk result (IsTree (next_of locks.now asked.now) asked.now.start found.new.threads.keys found.new.parents.items) }
+    ensures closes { result ≡ Ok true → Waits (next_of locks.now asked.now) (slice_index found.old.threads.keys at) asked.now.start }
+    ensures closed { result ≡ Ok false → IsClosedAt (next_of locks.now asked.now) asked.now.start found.new.threads.keys at }
+    ensures longer { OnOk result (IsLonger found.old.threads.keys found.new.threads.keys) }
+    ensures bounded { OnOk result (length found.new.threads.keys ≤ found.new.most) }
     ensures most { found.new.most ≡ found.old.most }
 {
-    let next = next(alloc, locks, asked, found.threads[at])?;
+    let next = next(alloc, locks, asked, found.threads.as_slice()[at])?;
     add_all(found, locks, asked, at, next.as_slice())
 }
 
-// The cycle that the thread at place `last` closes by waiting for the first one.
+// The cycle that the thread at place `last` closes by waiting for the first one. It costs the cycle's length.
 fn path_to(
     alloc: Global,
     found: &Found,
@@ -112,20 +114,19 @@ fn path_to(
     asked: &Asked,
     last: usize,
 ) -> Result<Vec<ThreadNo>, AllocError>
-    requires tree { IsTree (next_of locks.now asked.now) (slice_index found.now.threads.items 0) found.now.threads.items found.now.parents.items }
-    requires last { last < length found.now.threads.items }
-    requires closes { Waits (next_of locks.now asked.now) (slice_index found.now.threads.items last) (slice_index found.now.threads.items 0) }
-    ensures { IfOk result (λ v. IsCycle (Waits (next_of locks.now asked.now)) (slice_index found.now.threads.items 0) v.items) }
+    requires tree { IsTree (next_of locks.now asked.now) (slice_index found.now.threads.keys 0) found.now.threads.keys found.now.parents.items }
+    requires last { last < length found.now.threads.keys }
+    requires closes { Waits (next_of locks.now asked.now) (slice_index found.now.threads.keys last) (slice_index found.now.threads.keys 0) }
+    ensures { IfOk result (λ v. IsCycle (Waits (next_of locks.now asked.now)) (slice_index found.now.threads.keys 0) v.items) }
 {
     let mut path = Vec::new(alloc);
     let mut at = last;
-    path.push(found.threads[at])?;
+    path.push(found.threads.as_slice()[at])?;
     while at > 0 {
         at = found.parents[at];
-        if path.insert(0, found.threads[at]).is_err() {
-            return Err(AllocError);
-        }
+        path.push(found.threads.as_slice()[at])?;
     }
+    path.reverse();
     Ok(path)
 }
 
@@ -138,8 +139,8 @@ pub fn find_cycle(
     ensures found { IfOk result (λ o. IfSome o (λ v. IsCycle (Waits (next_of locks.now asked.now)) asked.now.start v.items)) }
     ensures none { result ≡ Ok None → (threads : List ℕ) → IsCycle (Waits (next_of locks.now asked.now)) asked.now.start threads → ⊥ }
 {
-    let mut threads = Vec::new(alloc);
-    threads.push(asked.start)?;
+    let mut threads = IndexSet::new(alloc);
+    threads.insert(asked.start)?;
     let mut parents = Vec::new(alloc);
     parents.push(0)?;
     let most = (locks.entry_count() as usize).saturating_add(1);

@@ -8,6 +8,6 @@ loop-thread-preserved c = record {
   longer = longer-then _ _ _ c.loop-thread.invariant.longer c.in_ok-add.ensures.longer;
   bounded = c.in_ok-add.ensures.bounded;
   most = c.in_ok-add.ensures.most ∙ c.loop-thread.invariant.most;
-  done = all-more c.args.asked.now.start _ c.loop-thread.found.threads.items c.add.new.found.threads.items c.args.next.now c.loop-thread.thread-index
+  done = all-more c.args.asked.now.start _ c.loop-thread.found.threads.keys c.add.new.found.threads.keys c.args.next.now c.loop-thread.thread-index
       c.loop-thread.invariant.done c.in_ok-add.ensures.longer refl c.if-thread-asked.false c.in_ok-add.ensures.there;
 }

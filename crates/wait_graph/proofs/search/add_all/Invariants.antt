@@ -5,9 +5,9 @@ use Rattle.wait_graph.proofs.search.add_all.Given as goal
 
 abbrev pub invariant-loop-thread : goal.invariant-loop-thread
 invariant-loop-thread l = record {
-  tree : IsTree (next l.locks l.asked) l.asked.start l.found.threads.items l.found.parents.items;
-  longer : IsLonger l.initial.found.threads.items l.found.threads.items;
-  bounded : length l.found.threads.items ≤ l.found.most;
+  tree : IsTree (next l.locks l.asked) l.asked.start l.found.threads.keys l.found.parents.items;
+  longer : IsLonger l.initial.found.threads.keys l.found.threads.keys;
+  bounded : length l.found.threads.keys ≤ l.found.most;
   most : l.found.most ≡ l.initial.found.most;
-  done : AreAll l.asked.start l.found.threads.items l.next l.thread-index;
+  done : AreAll l.asked.start l.found.threads.keys l.next l.thread-index;
 }

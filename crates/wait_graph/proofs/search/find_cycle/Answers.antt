@@ -1,4 +1,4 @@
-use Rattle.std.proofs.Common.{◌≡◌, ◌∙◌, ◌<◌, ◌+◌, ℕ, sym, ap, subst, length, arith, inl, inr, true, Ok, List, vec_len}
+use Rattle.std.proofs.Common.{◌≡◌, ◌∙◌, ◌<◌, ◌+◌, ℕ, sym, ap, subst, length, arith, inl, inr, true, Ok, List}
 use Rattle.std.proofs.lemmas.Bool.Decides.{eqb_tells}
 use Rattle.wait_graph.specs.Targets.{next as next_of, among}
 use Rattle.wait_graph.specs.Search.{IsClosedAt, IsLonger}
@@ -15,11 +15,10 @@ pub loop-at-preserved : goal.loop-at-preserved
 loop-at-preserved c =
     let next = next_of c.args.locks.now c.args.asked.now in
     let i = c.loop-at.invariant in
-    let old = c.loop-at.found.threads.items in
-    let new = c.explore.new.found.threads.items in
-    let e : vec_len c.loop-at.found.threads ≡ length old = c.loop-at.found.threads.ok.0 in
-    let l = c.len.ensures in let t = c.loop-at-test.true in
-    let low : c.loop-at.at < length old = omega (arith, e, l, t) in
+    let old = c.loop-at.found.threads.keys in
+    let new = c.explore.new.found.threads.keys in
+    let l = c.len.ensures.len in let t = c.loop-at-test.true in
+    let low : c.loop-at.at < length old = omega (arith, l, t) in
     record {
       tree = c.in_ok-explore.ensures.tree;
       bounded = c.in_ok-explore.ensures.bounded;
@@ -32,8 +31,7 @@ pub returns-clause-none : goal.returns-clause-none
 returns-clause-none c = λ h threads cycle.
     let next = next_of c.args.locks.now c.args.asked.now in
     let i = c.loop-at.invariant in
-    let found = c.loop-at.found.threads.items in
-    let e : vec_len c.loop-at.found.threads ≡ length found = c.loop-at.found.threads.ok.0 in
-    let far = c.loop-at-test.false in let len = c.len.ensures in
-    none-closed next c.args.asked.now.start found (λ j lt. i.closed j (omega (arith, e, far, len, lt)))
+    let found = c.loop-at.found.threads.keys in
+    let far = c.loop-at-test.false in let len = c.len.ensures.len in
+    none-closed next c.args.asked.now.start found (λ j lt. i.closed j (omega (arith, far, len, lt)))
     (subst (λ n. among n found ≡ true) i.tree.first (at-among found 0 i.tree.some)) threads cycle

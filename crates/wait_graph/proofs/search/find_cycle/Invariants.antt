@@ -5,11 +5,11 @@ use Rattle.wait_graph.proofs.search.find_cycle.Given as goal
 
 abbrev pub invariant-loop-at : goal.invariant-loop-at
 invariant-loop-at l = record {
-  tree : IsTree (next l.locks l.asked) l.asked.start l.found.threads.items l.found.parents.items;
-  bounded : length l.found.threads.items ≤ l.found.most;
+  tree : IsTree (next l.locks l.asked) l.asked.start l.found.threads.keys l.found.parents.items;
+  bounded : length l.found.threads.keys ≤ l.found.most;
   most : l.found.most ≡ l.initial.found.most;
-  within : l.at ≤ length l.found.threads.items;
-  closed : (j : ℕ) → j < l.at → IsClosedAt (next l.locks l.asked) l.asked.start l.found.threads.items j;
+  within : l.at ≤ length l.found.threads.keys;
+  closed : (j : ℕ) → j < l.at → IsClosedAt (next l.locks l.asked) l.asked.start l.found.threads.keys j;
 }
 
 abbrev pub decreases-loop-at : goal.decreases-loop-at
