@@ -1,1 +1,11 @@
 pub mod Entries
+pub mod Spelling
+pub mod Kinds
+pub mod Reading
+pub mod Naming
+pub mod Says
+pub mod Bodies
+pub mod Keeping
+pub mod Lying
+pub mod Parted
+pub mod Taken

@@ -1,0 +1,11 @@
+pub mod NameLoops
+pub mod Numbers
+pub mod RowFields
+pub mod NamedFields
+pub mod Sizes
+pub mod EntryFields
+pub mod EntryReading
+pub mod EntryLoops
+pub mod Kept
+pub mod BodyReading
+pub mod ListLoops

@@ -1,0 +1,134 @@
+//! Writing records: each call writes bytes from a place on, and answers the place behind them.
+ghost use Rattle.std.specs.Prelude.{◌≡◌, ℕ, ◌+◌, ◌*◌, ◌≤◌, ◌<◌, ◌^◌, ◌++◌, [], ◌∷◌, length, take};
+ghost use Rattle.std.specs.Int.{w16, w32, w64};
+ghost use Rattle.std.specs.List.{flat_map};
+ghost use Rattle.ids_base.specs.RowIds.{row_number};
+ghost use Rattle.log_records.specs.Naming.{named_of};
+ghost use Rattle.log_records.specs.Says.{entry_of};
+ghost use Rattle.log_records.specs.Spelling.{number_bytes, kind_of, tx_of, entry_size, place_bytes, row_bytes, named_bytes, fields_bytes, entry_bytes, AreBytes, IsChange, AreNamed, IsEntry};
+
+use crate::named::NamedList;
+use crate::record::Record;
+use ids_base::numbers::TableNo;
+use ids_base::position::OpenTx;
+use ids_base::row_id::RowId;
+
+/// A record.
+#[tactic(auto, unfolding(crate::specs::Spelling::entry_bytes))]
+pub fn put_record(into: &mut [u8], at: usize, entry: &Record) -> usize
+    requires { at + entry_size (entry_of entry.now) ≤ length into.old }
+    ensures end { result ≡ at + entry_size (entry_of entry.now) }
+    ensures front { take result into.new ≡ take at into.old ++ entry_bytes (entry_of entry.now) }
+    ensures entry { IsEntry (entry_of entry.now) }
+{
+    let at = put_u16(into, at, entry.size());
+    let at = put_bytes(into, at, &[entry.code()]);
+    let at = put_u64(into, at, entry.tx());
+    put_fields(into, at, entry)
+}
+
+/// A number of 8 bytes.
+#[tactic(auto, unfolding(crate::specs::Spelling::number_bytes))]
+pub fn put_u64(into: &mut [u8], at: usize, n: u64) -> usize
+    requires { at + 8 ≤ length into.old }
+    ensures end { result ≡ at + 8 }
+    ensures front { take result into.new ≡ take at into.old ++ number_bytes w64 n }
+{
+    put_bytes(into, at, &n.to_be_bytes())
+}
+
+/// A number of 2 bytes.
+#[tactic(auto, unfolding(crate::specs::Spelling::number_bytes))]
+pub fn put_u16(into: &mut [u8], at: usize, n: u16) -> usize
+    requires { at + 2 ≤ length into.old }
+    ensures end { result ≡ at + 2 }
+    ensures front { take result into.new ≡ take at into.old ++ number_bytes w16 n }
+{
+    put_bytes(into, at, &n.to_be_bytes())
+}
+
+/// Bytes as they are.
+pub fn put_bytes(into: &mut [u8], at: usize, bytes: &[u8]) -> usize
+    requires { at + length bytes.now ≤ length into.old }
+    ensures end { result ≡ at + length bytes.now }
+    ensures front { take result into.new ≡ take at into.old ++ bytes.now }
+    ensures fits { AreBytes bytes.now }
+{
+    let end = at + bytes.len();
+    into[at..end].copy_from_slice(bytes);
+    end
+}
+
+#[tactic(auto, unfolding(crate::specs::Spelling::number_bytes))]
+fn put_u32(into: &mut [u8], at: usize, n: u32) -> usize
+    requires { at + 4 ≤ length into.old }
+    ensures end { result ≡ at + 4 }
+    ensures front { take result into.new ≡ take at into.old ++ number_bytes w32 n }
+{
+    put_bytes(into, at, &n.to_be_bytes())
+}
+
+// What follows the transaction of a record.
+fn put_fields(into: &mut [u8], at: usize, entry: &Record) -> usize
+    requires { at + entry_size (entry_of entry.now) ≤ length into.old + 11 }
+    ensures end { result + 11 ≡ at + entry_size (entry_of entry.now) }
+    ensures front { take result into.new ≡ take at into.old ++ fields_bytes (entry_of entry.now) }
+    ensures entry { tx_of (entry_of entry.now) < 2 ^ 64 → IsEntry (entry_of entry.now) }
+{
+    match entry {
+        Record::Begin { session, .. } => put_u32(into, at, *session),
+        Record::Commit { .. } | Record::Rollback { .. } => at,
+        Record::HInsert { table, row, after, .. } => {
+            put_change(into, at, *table, *row, after.bytes())
+        }
+        Record::HDelete { table, row, before, .. } => {
+            put_change(into, at, *table, *row, before.bytes())
+        }
+        Record::HUpdate { table, row, rows, .. } => {
+            let at = put_change(into, at, *table, *row, rows.before.bytes());
+            put_bytes(into, at, rows.after.bytes())
+        }
+        Record::Ckpoint { named } => put_list(into, at, named),
+    }
+}
+
+// A table, a row id, and a row behind its length.
+fn put_change(into: &mut [u8], at: usize, table: TableNo, row: RowId, bytes: &[u8]) -> usize
+    requires room { at + 10 + length bytes.now ≤ length into.old }
+    requires short { length bytes.now < 2 ^ 16 }
+    ensures end { result ≡ at + 10 + length bytes.now }
+    ensures front { take result into.new ≡ take at into.old ++ (place_bytes table (row_number row.page row.slot) ++ row_bytes bytes.now) }
+    ensures change { (tx : ℕ) → tx < 2 ^ 64 → IsChange tx table (row_number row.page row.slot) }
+    ensures fits { AreBytes bytes.now }
+{
+    let at = put_u32(into, at, table);
+    let at = put_u32(into, at, row.number());
+    let at = put_u16(into, at, bytes.len() as u16);
+    put_bytes(into, at, bytes)
+}
+
+// A named transaction.
+fn put_open_tx(into: &mut [u8], at: usize, open_tx: OpenTx) -> usize
+    requires { at + 18 ≤ length into.old }
+    ensures end { result ≡ at + 18 }
+    ensures front { take result into.new ≡ take at into.old ++ named_bytes (named_of open_tx) }
+{
+    let at = put_u64(into, at, open_tx.tx);
+    let at = put_u64(into, at, open_tx.begin.block);
+    put_u16(into, at, open_tx.begin.index)
+}
+
+// The number of named transactions, and each of them.
+fn put_list(into: &mut [u8], at: usize, named: &NamedList) -> usize
+    requires { at + 2 + 18 * length named.now ≤ length into.old }
+    ensures end { result ≡ at + 2 + 18 * length named.now }
+    ensures front { take result into.new ≡ take at into.old ++ (number_bytes w16 (length named.now) ++ flat_map named_bytes named.now) }
+    ensures named { AreNamed named.now }
+{
+    let list = named.as_slice();
+    let mut next = put_u16(into, at, list.len() as u16);
+    for open_tx in list {
+        next = put_open_tx(into, next, *open_tx);
+    }
+    next
+}
