@@ -1,11 +1,16 @@
 pub mod Answered
 pub mod Fits
 pub mod Legal
+pub mod Logged
 pub mod Matches
 pub mod Meaning
 pub mod Moves
 pub mod Puts
+pub mod Recovered
+pub mod RecoveryLaws
 pub mod Rows
 pub mod Served
+pub mod Slots
+pub mod Stands
 pub mod Tables
 pub mod Text

@@ -9,6 +9,7 @@ pub mod interpret;
 pub mod journal;
 pub mod laws;
 pub mod outcome;
+pub mod recovery_laws;
 pub mod rows;
 pub mod table;
 pub mod tables;
