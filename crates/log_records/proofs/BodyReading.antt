@@ -1,16 +1,16 @@
 -- Bodies: what is read is spelled so, and what is spelled is read.
-use Rattle.std.proofs.Common.{◌≡◌, ℕ, zero, suc, ◌+◌, ◌-◌, ◌*◌, ◌^◌, ◌<◌, ◌≤◌, Bool, true, false, cond, eqb, leb, List, [], ◌∷◌, ◌++◌, length, take, drop, Option, Some, None, refl, sym, ap, subst, ◌∙◌, append_assoc, length-append, arith}
-use Rattle.std.specs.Prelude.{◌&&◌, ◌≢◌, replicate, is_some, option_map, IfSome, IfNone}
-use Rattle.std.specs.List.{flat_map, list_all, AllByRecursion}
+use Rattle.std.proofs.Common.{◌≡◌, ℕ, zero, suc, ◌-◌, ◌^◌, ◌<◌, ◌≤◌, true, false, cond, eqb, leb, List, [], ◌∷◌, ◌++◌, length, take, drop, Option, Some, None, refl, sym, ap, subst, ◌∙◌, append_assoc, length-append, arith}
+use Rattle.std.specs.Prelude.{◌&&◌, ◌≢◌, replicate, is_some, IfSome, IfNone}
+use Rattle.std.specs.List.{list_all, AllByRecursion}
 use Rattle.std.specs.Int.{w16, w64}
 use Rattle.std.proofs.lemmas.Bool.{eqb-true, eq-eqb, ne_eqb, leb-true, le-leb, lt-leb}
 use Rattle.std.proofs.lemmas.Option.{cond_some, same_Some, none-some}
 use Rattle.std.proofs.lemmas.List.{append-nil, nil_from_length, take-append-drop, take_at, drop_at, length-drop, length-take, length-replicate}
 use Rattle.log_records.specs.Entries.{Entry}
-use Rattle.log_records.specs.Spelling.{AreBytes, number_bytes, entry_bytes, entry_size, IsEntry}
-use Rattle.log_records.specs.Reading.{◌>>=◌, number_at, entry_at, entries_at}
+use Rattle.log_records.specs.Spelling.{AreBytes, number_bytes, IsEntry}
+use Rattle.log_records.specs.Reading.{◌>>=◌, number_at, entries_at}
 use Rattle.log_records.specs.Bodies.{Body, IsBody, entries_bytes, entries_size, body_bytes, body_of, whole_at, records_at}
-use Rattle.log_records.proofs.Numbers.{AreBytes-take, both_some, both_true, guarded, Takes, Takes-then, wide16, wide64, number_takes, number_again}
+use Rattle.log_records.proofs.Numbers.{AreBytes-take, both_some, both_true, guarded, wide16, wide64, number_takes, number_again}
 use Rattle.log_records.specs.Keeping.{kept, IsKept}
 use Rattle.log_records.proofs.Kept.{made, kept_is}
 use Rattle.log_records.proofs.Sizes.{length-entries_bytes, entries_size-low}
@@ -100,12 +100,12 @@ body_takes bytes b fits e =
     let es = w.0 in
     let tail = entries_bytes es ++ replicate (2035 - entries_size es) 0 in
     let whole : bytes ≡ number_bytes w64 x.0.0 ++ (number_bytes w16 (entries_size es) ++ (number_bytes w16 (length es) ++ tail)) =
-        t0.0.parts
-        ∙ ap (λ (t : List ℕ). number_bytes w64 x.0.0 ++ t) t1.0.parts
-        ∙ ap (λ (n : ℕ). number_bytes w64 x.0.0 ++ (number_bytes w16 n ++ y.0.1)) r.used_is
-        ∙ ap (λ (t : List ℕ). number_bytes w64 x.0.0 ++ (number_bytes w16 (entries_size es) ++ t)) t2.0.parts
-        ∙ ap (λ (n : ℕ). number_bytes w64 x.0.0 ++ (number_bytes w16 (entries_size es) ++ (number_bytes w16 n ++ z.0.1))) (sym r.count_is)
-        ∙ ap (λ (t : List ℕ). number_bytes w64 x.0.0 ++ (number_bytes w16 (entries_size es) ++ (number_bytes w16 (length es) ++ t))) r.parts in
+    t0.0.parts
+    ∙ ap (λ (t : List ℕ). number_bytes w64 x.0.0 ++ t) t1.0.parts
+    ∙ ap (λ (n : ℕ). number_bytes w64 x.0.0 ++ (number_bytes w16 n ++ y.0.1)) r.used_is
+    ∙ ap (λ (t : List ℕ). number_bytes w64 x.0.0 ++ (number_bytes w16 (entries_size es) ++ t)) t2.0.parts
+    ∙ ap (λ (n : ℕ). number_bytes w64 x.0.0 ++ (number_bytes w16 (entries_size es) ++ (number_bytes w16 n ++ z.0.1))) (sym r.count_is)
+    ∙ ap (λ (t : List ℕ). number_bytes w64 x.0.0 ++ (number_bytes w16 (entries_size es) ++ (number_bytes w16 (length es) ++ t))) r.parts in
     let found : Body = record { number = x.0.0; entries = es } in
     let good : IsBody found = record { number = t0.1; some = omega (arith, r.some, r.count_is); each = r.each; fits = omega (arith, r.room, r.used_is) } in
     subst (λ (f : Body). IsBody f × (bytes ≡ number_bytes w64 f.number ++ (number_bytes w16 (entries_size f.entries) ++ (number_bytes w16 (length f.entries) ++ (entries_bytes f.entries ++ replicate (2035 - entries_size f.entries) 0))))) (same_Some found b w.2) (good, whole)
@@ -182,7 +182,7 @@ written b f0 f1 f2 f3 r0 r1 r2 r3 rest tail e0 e1 e2 e3 er et =
     let n1 = number_bytes w16 (entries_size b.entries) in
     let n2 = number_bytes w16 (length b.entries) in
     let front : take r3 f3 ≡ ((n0 ++ n1) ++ n2) ++ entries_bytes b.entries =
-        e3 ∙ ap (λ (t : List ℕ). t ++ entries_bytes b.entries) (e2 ∙ ap (λ (t : List ℕ). t ++ n2) (e1 ∙ ap (λ (t : List ℕ). t ++ n1) e0)) in
+    e3 ∙ ap (λ (t : List ℕ). t ++ entries_bytes b.entries) (e2 ∙ ap (λ (t : List ℕ). t ++ n2) (e1 ∙ ap (λ (t : List ℕ). t ++ n1) e0)) in
     let zeros_are : tail ≡ replicate (2035 - entries_size b.entries) 0 = et ∙ ap (λ (n : ℕ). replicate n 0) er in
     ap (λ (t : List ℕ). t ++ tail) front
     ∙ ap (λ (t : List ℕ). (((n0 ++ n1) ++ n2) ++ entries_bytes b.entries) ++ t) zeros_are

@@ -1,16 +1,15 @@
 -- Records: what is read is spelled so, and what is spelled is read, whatever follows.
-use Rattle.std.proofs.Common.{◌≡◌, ℕ, zero, suc, ◌+◌, ◌*◌, ◌^◌, ◌<◌, ◌≤◌, Bool, true, false, cond, eqb, List, [], ◌∷◌, ◌++◌, length, Option, Some, None, refl, sym, ap, subst, ◌∙◌, append_assoc, length-append, arith}
-use Rattle.std.specs.List.{flat_map, AllByRecursion}
-use Rattle.std.specs.Int.{w16, w32, w64}
+use Rattle.std.proofs.Common.{◌≡◌, ℕ, ◌^◌, ◌<◌, eqb, List, ◌++◌, Some, refl, sym, ap, subst, ◌∙◌, append_assoc}
+use Rattle.std.specs.Int.{w32}
 use Rattle.std.proofs.lemmas.Bool.{eqb-true}
-use Rattle.std.proofs.lemmas.Option.{cond_some, same_Some}
+use Rattle.std.proofs.lemmas.Option.{same_Some}
 use Rattle.log_records.specs.declared.kind.Kind.{Kind}
 use Rattle.log_records.specs.declared.kind.Kind.TheVariants as kinds
-use Rattle.log_records.specs.Entries.{Named, Entry, Begin, Commit, Rollback, HInsert, HDelete, HUpdate, Ckpoint}
-use Rattle.log_records.specs.Spelling.{AreBytes, number_bytes, kind_of, tx_of, place_bytes, row_bytes, fields_bytes, entry_bytes, entry_size, IsEntry}
-use Rattle.log_records.specs.Kinds.{kind_code, code_kind}
-use Rattle.log_records.specs.Reading.{◌>>=◌, number_at, kind_at, place_at, row_at, rows_at, list_at, checkpoint_at, fields_at, tail_at, entry_at}
-use Rattle.log_records.proofs.Numbers.{both_some, guarded, Takes, Takes-then, wide16, wide32, wide64, number_takes, number_again}
+use Rattle.log_records.specs.Entries.{Entry, Begin, Commit, Rollback, HInsert, HDelete, HUpdate, Ckpoint}
+use Rattle.log_records.specs.Spelling.{AreBytes, kind_of, tx_of, place_bytes, row_bytes, fields_bytes, IsEntry}
+use Rattle.log_records.specs.Kinds.{kind_code}
+use Rattle.log_records.specs.Reading.{◌>>=◌, number_at, place_at, row_at, rows_at, list_at, checkpoint_at, fields_at}
+use Rattle.log_records.proofs.Numbers.{both_some, guarded, Takes, Takes-then, wide32, number_takes, number_again}
 use Rattle.log_records.proofs.RowFields.{row_takes, row_again, rows_takes, rows_again, place_takes, place_again}
 use Rattle.log_records.proofs.NamedFields.{list_takes, list_again}
 

@@ -1,13 +1,13 @@
 -- Records and lists of them: what is read is spelled so, and what is spelled is read, whatever follows.
-use Rattle.std.proofs.Common.{◌≡◌, ℕ, zero, suc, ◌+◌, ◌-◌, ◌*◌, ◌^◌, ◌<◌, ◌≤◌, Bool, true, false, cond, eqb, List, [], ◌∷◌, ◌++◌, length, take, Option, Some, None, refl, sym, ap, subst, ◌∙◌, append_assoc, length-append, arith}
-use Rattle.std.specs.List.{flat_map, AllByRecursion}
+use Rattle.std.proofs.Common.{◌≡◌, ℕ, zero, suc, ◌+◌, ◌-◌, ◌^◌, ◌<◌, ◌≤◌, Bool, true, false, cond, eqb, List, [], ◌∷◌, ◌++◌, length, take, Option, Some, None, refl, sym, ap, subst, ◌∙◌, append_assoc, length-append, arith}
+use Rattle.std.specs.List.{AllByRecursion}
 use Rattle.std.specs.Int.{w16, w64}
 use Rattle.std.proofs.lemmas.Bool.{eqb-true, eq-eqb}
 use Rattle.std.proofs.lemmas.Option.{cond_some, same_Some, none-some}
 use Rattle.std.proofs.lemmas.List.Concat.{flat_map-cons}
 use Rattle.log_records.specs.declared.kind.Kind.{Kind}
 use Rattle.log_records.specs.declared.kind.Kind.TheVariants as kinds
-use Rattle.log_records.specs.Entries.{Named, Entry, Begin, Commit, Rollback, HInsert, HDelete, HUpdate, Ckpoint}
+use Rattle.log_records.specs.Entries.{Entry, Begin, Commit, Rollback, HInsert, HDelete, HUpdate, Ckpoint}
 use Rattle.log_records.specs.Spelling.{AreBytes, number_bytes, kind_of, tx_of, fields_bytes, entry_bytes, entry_size, IsEntry}
 use Rattle.log_records.specs.Kinds.{kind_code, code_kind}
 use Rattle.log_records.specs.Reading.{◌>>=◌, number_at, kind_at, fields_at, tail_at, entry_at, entries_at}
@@ -16,7 +16,7 @@ use Rattle.log_records.specs.Bodies.{entries_bytes}
 use Rattle.log_records.specs.Taken.{IsTaken, IsNoRecord}
 use Rattle.log_records.proofs.Numbers.{both_some, Takes, Takes-then, wide16, wide64, number_takes, number_again}
 use Rattle.log_records.proofs.Sizes.{tail_bytes, length-tail_bytes, entry_size-high}
-use Rattle.log_records.proofs.EntryFields.{entry_kind, AreFields, fields_take, fields_again}
+use Rattle.log_records.proofs.EntryFields.{entry_kind, fields_take, fields_again}
 
 picked_by : (b : Bool) (n m : ℕ) (k : Kind) (o : Option Kind) (kind : Kind) → (b ≡ true → n ≡ kind_code k) → cond b (Some k) o ≡ Some kind → (o ≡ Some kind → n ≡ kind_code kind) → n ≡ kind_code kind
 picked_by true n m k o kind here e later = here refl ∙ ap kind_code (same_Some k kind e)
@@ -29,8 +29,8 @@ picked n m k o kind is e later = picked_by (eqb n m) n m k o kind (λ t. eqb-tru
 code_is : (n : ℕ) (kind : Kind) → code_kind n ≡ Some kind → n ≡ kind_code kind
 code_is n kind e =
     picked n 1 kinds.Begin _ kind refl e (λ e1. picked n 2 kinds.Commit _ kind refl e1 (λ e2. picked n 3 kinds.Rollback _ kind refl e2 (λ e3.
-        picked n 4 kinds.HInsert _ kind refl e3 (λ e4. picked n 5 kinds.HDelete _ kind refl e4 (λ e5. picked n 6 kinds.HUpdate _ kind refl e5 (λ e6.
-            picked n 7 kinds.Ckpoint None kind refl e6 (λ e7. absurd (none-some kind e7))))))))
+    picked n 4 kinds.HInsert _ kind refl e3 (λ e4. picked n 5 kinds.HDelete _ kind refl e4 (λ e5. picked n 6 kinds.HUpdate _ kind refl e5 (λ e6.
+    picked n 7 kinds.Ckpoint None kind refl e6 (λ e7. absurd (none-some kind e7))))))))
 
 kind_takes : (bytes : List ℕ) (kind : Kind) (rest : List ℕ) → AreBytes bytes → kind_at bytes ≡ Some (kind, rest) → Takes bytes (kind_code kind ∷ []) rest
 unfolding kind_at
@@ -89,7 +89,7 @@ entry_takes bytes e rest fits read =
     let both = Takes-then bytes (number_bytes w16 a.0.0) a.0.1 (tail_bytes b.0.0) b.0.1 t0.0 t1.0 in
     let all : a.0.0 + length b.0.1 ≡ length bytes = eqb-true _ _ c.0 in
     let size : a.0.0 ≡ entry_size b.0.0 =
-        omega (arith, all, ap length both.parts, length-append (number_bytes w16 a.0.0 ++ tail_bytes b.0.0) b.0.1, length-append (number_bytes w16 a.0.0) (tail_bytes b.0.0), wide16.long a.0.0, length-tail_bytes b.0.0) in
+    omega (arith, all, ap length both.parts, length-append (number_bytes w16 a.0.0 ++ tail_bytes b.0.0) b.0.1, length-append (number_bytes w16 a.0.0) (tail_bytes b.0.0), wide16.long a.0.0, length-tail_bytes b.0.0) in
     let whole : Takes bytes (number_bytes w16 (entry_size b.0.0) ++ tail_bytes b.0.0) b.0.1 = subst (λ (n : ℕ). Takes bytes (number_bytes w16 n ++ tail_bytes b.0.0) b.0.1) size both in
     subst (λ (x : Entry × List ℕ). Takes bytes (number_bytes w16 (entry_size x.0) ++ tail_bytes x.0) x.1 × IsEntry x.0) c.1 (whole, t1.1)
 
@@ -99,7 +99,7 @@ entry_again e rest fits =
     let regrouped : (number_bytes w16 (entry_size e) ++ tail_bytes e) ++ rest ≡ number_bytes w16 (entry_size e) ++ (tail_bytes e ++ rest) = append_assoc (number_bytes w16 (entry_size e)) (tail_bytes e) rest in
     let small : entry_size e < 2 ^ 16 = omega (arith, entry_size-high e fits) in
     let long : length (number_bytes w16 (entry_size e) ++ (tail_bytes e ++ rest)) ≡ entry_size e + length rest =
-        omega (arith, length-append (number_bytes w16 (entry_size e)) (tail_bytes e ++ rest), length-append (tail_bytes e) rest, wide16.long (entry_size e), length-tail_bytes e) in
+    omega (arith, length-append (number_bytes w16 (entry_size e)) (tail_bytes e ++ rest), length-append (tail_bytes e) rest, wide16.long (entry_size e), length-tail_bytes e) in
     let all : eqb (entry_size e + length rest) (length (number_bytes w16 (entry_size e) ++ (tail_bytes e ++ rest))) ≡ true = eq-eqb _ _ (sym long) in
     ap entry_at regrouped ∙ rw (number_again w16 (2 ^ 16) wide16 (entry_size e) (tail_bytes e ++ rest) small, tail_again e rest fits, all) refl
 

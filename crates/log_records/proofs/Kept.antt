@@ -1,10 +1,8 @@
 -- Records that stand in the used bytes of a body.
-use Rattle.std.proofs.Common.{◌≡◌, ℕ, ◌+◌, ◌*◌, ◌<◌, ◌≤◌, List, [], ◌∷◌, ◌++◌, length, take, Option, Some, None, refl, sym, ap, subst, ◌∙◌, append_assoc, length-append, arith}
-use Rattle.std.specs.Option.{option_map_or}
-use Rattle.std.specs.List.{flat_map, AllByRecursion}
+use Rattle.std.proofs.Common.{◌≡◌, ℕ, ◌+◌, ◌≤◌, List, [], ◌∷◌, ◌++◌, length, take, Some, refl, sym, ap, subst, ◌∙◌, length-append, arith}
+use Rattle.std.specs.List.{AllByRecursion}
 use Rattle.std.proofs.lemmas.List.{append-nil, length-take}
 use Rattle.std.proofs.lemmas.List.Concat.{flat_map-append}
-use Rattle.std.proofs.lemmas.List.Sums.{sum_by_push}
 use Rattle.log_records.specs.Entries.{Entry}
 use Rattle.log_records.specs.Spelling.{entry_bytes, entry_size, IsEntry}
 use Rattle.log_records.specs.Reading.{entries_at}
@@ -18,7 +16,7 @@ pub kept_is : (count used : ℕ) (bytes : List ℕ) (es : List Entry) → length
 unfolding kept
 kept_is count used bytes es counted each spelled =
     let read : entries_at count (take used bytes) ≡ Some (es, []) =
-        ap (entries_at count) (spelled ∙ sym (append-nil (entries_bytes es))) ∙ subst (λ (n : ℕ). entries_at n (entries_bytes es ++ []) ≡ Some (es, [])) counted (entries_again es [] each) in
+    ap (entries_at count) (spelled ∙ sym (append-nil (entries_bytes es))) ∙ subst (λ (n : ℕ). entries_at n (entries_bytes es ++ []) ≡ Some (es, [])) counted (entries_again es [] each) in
     rw read refl
 
 -- so a body that has these bytes keeps them

@@ -1,17 +1,13 @@
 -- Reading named transactions one after another, as a loop does.
-use Rattle.std.proofs.Common.{◌≡◌, ℕ, zero, suc, ◌-◌, ◌+◌, ◌≤◌, ◌<◌, Bool, true, false, cond, leb, length, length-append, append_assoc, subst, List, [], ◌∷◌, ◌++◌, Option, Some, None, refl, sym, ap, ◌∙◌, arith}
-use Rattle.std.specs.Prelude.{option_map, IsSome, ◌&&◌}
+use Rattle.std.proofs.Common.{◌≡◌, ℕ, suc, ◌-◌, ◌+◌, ◌≤◌, ◌<◌, true, leb, List, [], ◌∷◌, Option, Some, None, refl, sym, ap, ◌∙◌, arith}
+use Rattle.std.specs.Prelude.{option_map}
 use Rattle.std.specs.Option.{option_map_or}
-use Rattle.std.specs.List.{AllByRecursion}
 use Rattle.std.specs.Int.{w16}
 use Rattle.std.proofs.lemmas.Bool.{le-leb}
-use Rattle.std.proofs.lemmas.Option.{cond_some, same_Some}
-use Rattle.std.proofs.lemmas.List.{append-nil}
-use Rattle.log_records.specs.Entries.{Named, Entry, Ckpoint}
-use Rattle.log_records.specs.Spelling.{is_after, rises_after, named_bytes, IsNamed, AreNamed}
-use Rattle.log_records.specs.Reading.{◌>>=◌, number_at, named_at, next_at, names_at, list_at, checkpoint_at}
+use Rattle.std.proofs.lemmas.Option.{same_Some}
+use Rattle.log_records.specs.Entries.{Named, Ckpoint}
+use Rattle.log_records.specs.Reading.{◌>>=◌, number_at, next_at, names_at, list_at, checkpoint_at}
 use Rattle.log_records.specs.Lying.{names_of}
-use Rattle.log_records.proofs.Numbers.{both_some, both_true}
 
 -- the bytes behind what is read
 abbrev pub behind : {A : Type 0} → Option (A × List ℕ) → Option (List ℕ)

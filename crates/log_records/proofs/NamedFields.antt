@@ -1,6 +1,5 @@
 -- The transactions that a checkpoint names: what is read is spelled so, and what is spelled is read.
-use Rattle.std.proofs.Common.{◌≡◌, ℕ, zero, suc, ◌+◌, ◌^◌, ◌<◌, ◌≤◌, Bool, true, false, cond, List, [], ◌∷◌, ◌++◌, length, Option, Some, None, refl, sym, ap, subst, ◌∙◌, append_assoc, arith, leb}
-use Rattle.std.specs.Prelude.{◌&&◌, IsTrue}
+use Rattle.std.proofs.Common.{◌≡◌, ℕ, zero, suc, ◌^◌, ◌<◌, true, cond, List, [], ◌∷◌, ◌++◌, length, Option, Some, None, refl, sym, ap, subst, ◌∙◌, append_assoc, arith, leb}
 use Rattle.std.specs.List.{flat_map, AllByRecursion}
 use Rattle.std.specs.Int.{w16, w64}
 use Rattle.std.proofs.lemmas.Bool.{leb-true, le-leb}
@@ -59,7 +58,7 @@ names_take (suc n) last bytes ns rest fits e =
     let made : List Named × List ℕ = (a.0.0 ∷ b.0.0, b.0.1) in
     let rises : rises_after last (a.0.0 ∷ b.0.0) ≡ true = rw (first.2, others.2) refl in
     subst (λ (x : List Named × List ℕ). Takes bytes (flat_map named_bytes x.0) x.1 × (length x.0 ≡ suc n) × (rises_after last x.0 ≡ true) × AllByRecursion IsNamed x.0) (same_Some made (ns, rest) b.2)
-        (rw flat_map-cons both, ap suc others.1, rises, (first.1, others.3))
+    (rw flat_map-cons both, ap suc others.1, rises, (first.1, others.3))
 
 pub names_again : (last : Option ℕ) (ns : List Named) (rest : List ℕ) → rises_after last ns ≡ true → AllByRecursion IsNamed ns → names_at (length ns) last (flat_map named_bytes ns ++ rest) ≡ Some (ns, rest)
 unfolding names_at

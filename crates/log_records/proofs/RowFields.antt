@@ -1,10 +1,9 @@
 -- Rows and the places of changes: what is read is spelled so, and what is spelled is read.
-use Rattle.std.proofs.Common.{◌≡◌, ℕ, ◌+◌, ◌^◌, ◌<◌, ◌≤◌, Bool, true, false, cond, List, [], ◌∷◌, ◌++◌, length, Option, Some, None, refl, sym, ap, subst, ◌∙◌, append_assoc, arith, leb}
+use Rattle.std.proofs.Common.{◌≡◌, ℕ, ◌^◌, ◌<◌, ◌≤◌, true, cond, List, ◌++◌, length, Some, None, refl, sym, ap, subst, ◌∙◌, append_assoc, arith, leb}
 use Rattle.std.specs.Prelude.{◌&&◌}
 use Rattle.std.specs.Int.{w16, w32}
 use Rattle.std.proofs.lemmas.Bool.{leb-true, le-leb}
 use Rattle.std.proofs.lemmas.Option.{cond_some, same_Some}
-use Rattle.ids_base.specs.RowBytes.{HasRowLength}
 use Rattle.log_records.specs.Spelling.{AreBytes, IsRow, AreRows, number_bytes, place_bytes, row_bytes}
 use Rattle.log_records.specs.Reading.{◌>>=◌, number_at, piece_at, row_length_at, row_at, rows_at, place_at}
 use Rattle.log_records.proofs.Numbers.{both_some, both_true, Takes, Takes-then, wide16, wide32, number_takes, number_again, piece_takes, piece_again}

@@ -1,11 +1,9 @@
 -- A record's size is the number of its bytes.
-use Rattle.std.proofs.Common.{◌≡◌, ℕ, ◌+◌, ◌*◌, ◌<◌, ◌≤◌, List, [], ◌∷◌, ◌++◌, length, refl, sym, ap, ◌∙◌, length-append, arith}
-use Rattle.std.specs.Prelude.{sum_by}
-use Rattle.std.specs.List.{flat_map, AllByRecursion}
-use Rattle.std.specs.Int.{w16, w32, w64}
-use Rattle.std.proofs.lemmas.List.Concat.{flat_map-cons, flat_map-append}
+use Rattle.std.proofs.Common.{◌≡◌, ℕ, ◌+◌, ◌*◌, ◌≤◌, List, [], ◌∷◌, ◌++◌, length, refl, length-append, arith}
+use Rattle.std.specs.List.{flat_map}
+use Rattle.std.specs.Int.{w16, w64}
+use Rattle.std.proofs.lemmas.List.Concat.{flat_map-cons}
 use Rattle.std.proofs.lemmas.List.Sums.{sum_by-cons}
-use Rattle.ids_base.specs.RowBytes.{HasRowLength}
 use Rattle.log_records.specs.Entries.{Named, Entry, Begin, Commit, Rollback, HInsert, HDelete, HUpdate, Ckpoint}
 use Rattle.log_records.specs.Spelling.{number_bytes, kind_of, tx_of, named_bytes, place_bytes, row_bytes, fields_bytes, entry_bytes, entry_size, IsEntry}
 use Rattle.log_records.specs.Bodies.{entries_bytes, entries_size}

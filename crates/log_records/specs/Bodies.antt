@@ -1,5 +1,5 @@
 -- The bodies of log blocks and their bytes.
-use Rattle.std.specs.Prelude.{◌≡◌, ℕ, ◌-◌, ◌<◌, ◌≤◌, ◌^◌, ◌==◌, ◌&&◌, if◌then◌else◌, nat_le, List, length, ◌++◌, take, drop, replicate, sum_by, Option, Some, None}
+use Rattle.std.specs.Prelude.{ℕ, ◌-◌, ◌<◌, ◌≤◌, ◌^◌, ◌==◌, ◌&&◌, if◌then◌else◌, nat_le, List, length, ◌++◌, take, drop, replicate, sum_by, Option, Some, None}
 use Rattle.std.specs.List.{flat_map, list_all, AllByRecursion}
 use Rattle.std.specs.Int.{w16, w64}
 use Rattle.log_records.specs.Entries.{Entry}

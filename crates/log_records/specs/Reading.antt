@@ -5,7 +5,7 @@ use Rattle.log_records.specs.declared.kind.Kind.{Kind}
 use Rattle.log_records.specs.declared.kind.Kind.TheVariants as kinds
 use Rattle.log_records.specs.Entries.{Named, Entry, Begin, Commit, Rollback, HInsert, HDelete, HUpdate, Ckpoint}
 use Rattle.log_records.specs.Spelling.{is_after}
-use Rattle.log_records.specs.Kinds.{kind_code, code_kind}
+use Rattle.log_records.specs.Kinds.{code_kind}
 
 infixl 10 ◌>>=◌
 abbrev pub ◌>>=◌ : {A B : Type 0} → Option A → (A → Option B) → Option B

@@ -1,5 +1,4 @@
 -- What the program's records say.
-use Rattle.std.specs.Prelude.{ℕ, List, [], option_map, unwrap_or, None}
 use Rattle.ids_base.specs.RowIds.{row_number}
 use Rattle.log_records.specs.Entries as says
 use Rattle.log_records.specs.Entries.{Entry, Named}

@@ -91,6 +91,8 @@ impl BlockBody {
     pub fn used(&self) -> u16
         ensures used { result ≡ entries_size self.now.entries }
         ensures room { result ≤ 2004 }
+        // The fields of all of them are in their ranges.
+        ensures each { AllByRecursion IsEntry self.now.entries }
     {
         self.used
     }
@@ -145,7 +147,12 @@ impl BlockBody {
     }
 
     /// The body whose records are all of the bytes up to those used, with zeros behind them, if they are so many.
-    pub(crate) fn from_records(number: u64, used: u16, count: u16, bytes: &[u8]) -> Option<BlockBody>
+    pub(crate) fn from_records(
+        number: u64,
+        used: u16,
+        count: u16,
+        bytes: &[u8],
+    ) -> Option<BlockBody>
         ensures { result ≡ option_map (λ es. record { number = number; entries = es }) (records_at used count bytes.now) }
     {
         if used > 2004 || count < 1 || bytes.len() != 2035 {

@@ -20,7 +20,9 @@ use crate::writing::{put_bytes, put_u16, put_u64};
 #[tactic(auto, unfolding(crate::specs::Bodies::body_bytes))]
 pub fn body_to_bytes(body: &BlockBody, into: &mut [u8; 2047])
     requires { 1 ≤ length body.now.entries }
-    ensures { into.new ≡ body_bytes body.now }
+    ensures bytes { into.new ≡ body_bytes body.now }
+    // So these bytes are read as the body again.
+    ensures body { IsBody body.now }
 {
     let at = put_u64(into, 0, body.number());
     let at = put_u16(into, at, body.used());

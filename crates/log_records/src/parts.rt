@@ -15,13 +15,38 @@ use std::alloc::Global;
 /// What a record says, its rows and named transactions still in its bytes.
 #[derive(Drop)]
 pub enum Parts<'a> {
-    Begin { tx: TxNo, session: u32 },
-    Commit { tx: TxNo },
-    Rollback { tx: TxNo },
-    HInsert { tx: TxNo, table: TableNo, row: u32, after: &'a [u8] },
-    HDelete { tx: TxNo, table: TableNo, row: u32, before: &'a [u8] },
-    HUpdate { tx: TxNo, table: TableNo, row: u32, before: &'a [u8], after: &'a [u8] },
-    Ckpoint { named: Names<'a> },
+    Begin {
+        tx: TxNo,
+        session: u32,
+    },
+    Commit {
+        tx: TxNo,
+    },
+    Rollback {
+        tx: TxNo,
+    },
+    HInsert {
+        tx: TxNo,
+        table: TableNo,
+        row: u32,
+        after: &'a [u8],
+    },
+    HDelete {
+        tx: TxNo,
+        table: TableNo,
+        row: u32,
+        before: &'a [u8],
+    },
+    HUpdate {
+        tx: TxNo,
+        table: TableNo,
+        row: u32,
+        before: &'a [u8],
+        after: &'a [u8],
+    },
+    Ckpoint {
+        named: Names<'a>,
+    },
 }
 
 /// A record of its own that says the same, in time of its size.
@@ -33,19 +58,35 @@ pub fn to_record(alloc: Global, parts: Parts) -> Result<Record, Memory>
         Parts::Begin { tx, session } => Ok(Record::Begin { tx, session }),
         Parts::Commit { tx } => Ok(Record::Commit { tx }),
         Parts::Rollback { tx } => Ok(Record::Rollback { tx }),
-        Parts::HInsert { tx, table, row, after } => Ok(Record::HInsert {
+        Parts::HInsert {
+            tx,
+            table,
+            row,
+            after,
+        } => Ok(Record::HInsert {
             tx,
             table,
             row: RowId::from_number(row),
             after: RowBytes::new(alloc, after)?,
         }),
-        Parts::HDelete { tx, table, row, before } => Ok(Record::HDelete {
+        Parts::HDelete {
+            tx,
+            table,
+            row,
+            before,
+        } => Ok(Record::HDelete {
             tx,
             table,
             row: RowId::from_number(row),
             before: RowBytes::new(alloc, before)?,
         }),
-        Parts::HUpdate { tx, table, row, before, after } => Ok(Record::HUpdate {
+        Parts::HUpdate {
+            tx,
+            table,
+            row,
+            before,
+            after,
+        } => Ok(Record::HUpdate {
             tx,
             table,
             row: RowId::from_number(row),

@@ -12,6 +12,7 @@ use ids_base::numbers::{TableNo, TxNo};
 use ids_base::position::{LogPos, OpenTx};
 
 const MOST_NAMED: u16 = 64;
+
 const LONGEST_ROW: u16 = 800;
 
 /// A record at the front of the bytes.
@@ -196,13 +197,7 @@ fn fields(kind: Kind, tx: TxNo, bytes: &[u8]) -> Option<(Parts, &[u8])>
         Kind::HInsert => inserted(tx, bytes),
         Kind::HDelete => deleted(tx, bytes),
         Kind::HUpdate => updated(tx, bytes),
-        Kind::Ckpoint => {
-            if tx == 0 {
-                checkpoint(bytes)
-            } else {
-                None
-            }
-        }
+        Kind::Ckpoint => { if tx == 0 { checkpoint(bytes) } else { None } }
     }
 }
 
@@ -212,7 +207,15 @@ fn inserted(tx: TxNo, bytes: &[u8]) -> Option<(Parts, &[u8])>
 {
     let (table, slot, rest) = place(bytes)?;
     let (after, rest) = row(rest)?;
-    Some((Parts::HInsert { tx, table, row: slot, after }, rest))
+    Some((
+        Parts::HInsert {
+            tx,
+            table,
+            row: slot,
+            after,
+        },
+        rest,
+    ))
 }
 
 #[tactic(auto, unfolding(crate::specs::Reading::fields_at))]
@@ -221,7 +224,15 @@ fn deleted(tx: TxNo, bytes: &[u8]) -> Option<(Parts, &[u8])>
 {
     let (table, slot, rest) = place(bytes)?;
     let (before, rest) = row(rest)?;
-    Some((Parts::HDelete { tx, table, row: slot, before }, rest))
+    Some((
+        Parts::HDelete {
+            tx,
+            table,
+            row: slot,
+            before,
+        },
+        rest,
+    ))
 }
 
 #[tactic(auto, unfolding(crate::specs::Reading::fields_at))]
@@ -230,7 +241,16 @@ fn updated(tx: TxNo, bytes: &[u8]) -> Option<(Parts, &[u8])>
 {
     let (table, slot, rest) = place(bytes)?;
     let (before, after, rest) = rows(rest)?;
-    Some((Parts::HUpdate { tx, table, row: slot, before, after }, rest))
+    Some((
+        Parts::HUpdate {
+            tx,
+            table,
+            row: slot,
+            before,
+            after,
+        },
+        rest,
+    ))
 }
 
 // What follows the length of a record.

@@ -19,19 +19,43 @@ use std::alloc::Global;
 #[derive(Drop)]
 pub enum Record {
     /// A transaction of a session begins.
-    Begin { tx: TxNo, session: u32 },
+    Begin {
+        tx: TxNo,
+        session: u32,
+    },
     /// It ends, and its changes stand.
-    Commit { tx: TxNo },
+    Commit {
+        tx: TxNo,
+    },
     /// It ends, and its changes were taken back.
-    Rollback { tx: TxNo },
+    Rollback {
+        tx: TxNo,
+    },
     /// A row was put into an empty slot.
-    HInsert { tx: TxNo, table: TableNo, row: RowId, after: RowBytes },
+    HInsert {
+        tx: TxNo,
+        table: TableNo,
+        row: RowId,
+        after: RowBytes,
+    },
     /// A row was taken out of its slot.
-    HDelete { tx: TxNo, table: TableNo, row: RowId, before: RowBytes },
+    HDelete {
+        tx: TxNo,
+        table: TableNo,
+        row: RowId,
+        before: RowBytes,
+    },
     /// A row was replaced in its slot.
-    HUpdate { tx: TxNo, table: TableNo, row: RowId, rows: Updated },
+    HUpdate {
+        tx: TxNo,
+        table: TableNo,
+        row: RowId,
+        rows: Updated,
+    },
     /// A checkpoint, and the transactions that were open.
-    Ckpoint { named: NamedList },
+    Ckpoint {
+        named: NamedList,
+    },
 }
 
 impl Record {
@@ -40,28 +64,48 @@ impl Record {
         ensures { IfOk result (λ copy. entry_of copy ≡ entry_of self.now) }
     {
         match self {
-            Record::Begin { tx, session } => Ok(Record::Begin { tx: *tx, session: *session }),
+            Record::Begin { tx, session } => Ok(Record::Begin {
+                tx: *tx,
+                session: *session,
+            }),
             Record::Commit { tx } => Ok(Record::Commit { tx: *tx }),
             Record::Rollback { tx } => Ok(Record::Rollback { tx: *tx }),
-            Record::HInsert { tx, table, row, after } => Ok(Record::HInsert {
+            Record::HInsert {
+                tx,
+                table,
+                row,
+                after,
+            } => Ok(Record::HInsert {
                 tx: *tx,
                 table: *table,
                 row: *row,
                 after: after.copy(alloc)?,
             }),
-            Record::HDelete { tx, table, row, before } => Ok(Record::HDelete {
+            Record::HDelete {
+                tx,
+                table,
+                row,
+                before,
+            } => Ok(Record::HDelete {
                 tx: *tx,
                 table: *table,
                 row: *row,
                 before: before.copy(alloc)?,
             }),
-            Record::HUpdate { tx, table, row, rows } => Ok(Record::HUpdate {
+            Record::HUpdate {
+                tx,
+                table,
+                row,
+                rows,
+            } => Ok(Record::HUpdate {
                 tx: *tx,
                 table: *table,
                 row: *row,
                 rows: rows.copy(alloc)?,
             }),
-            Record::Ckpoint { named } => Ok(Record::Ckpoint { named: named.copy(alloc)? }),
+            Record::Ckpoint { named } => Ok(Record::Ckpoint {
+                named: named.copy(alloc)?,
+            }),
         }
     }
 

@@ -1,4 +1,16 @@
 //! Writing records: each call writes bytes from a place on, and answers the place behind them.
+//!
+//! A record is its whole length (2 bytes), its kind (1), its transaction (8; 0 for a checkpoint) and its fields. Numbers stand
+//! with the highest byte first; L is the length of a row, 1 to 800.
+//!
+//! | Kind | Record | Fields | Length |
+//! |---|---|---|---|
+//! | 1 | BEGIN | session 4 | 15 |
+//! | 2, 3 | COMMIT, ROLLBACK | none | 11 |
+//! | 4 | HINSERT | table 4, row id 4, L 2, row after L | 21 + L |
+//! | 5 | HDELETE | table 4, row id 4, L 2, row before L | 21 + L |
+//! | 6 | HUPDATE | table 4, row id 4, L 2, row before L, row after L | 21 + 2 L |
+//! | 7 | CKPOINT | count 2, then for each transaction its number 8 and its BEGIN: block 8, index 2 | 13 + 18 count |
 ghost use Rattle.std.specs.Prelude.{◌≡◌, ℕ, ◌+◌, ◌*◌, ◌≤◌, ◌<◌, ◌^◌, ◌++◌, [], ◌∷◌, length, take};
 ghost use Rattle.std.specs.Int.{w16, w32, w64};
 ghost use Rattle.std.specs.List.{flat_map};
@@ -78,13 +90,24 @@ fn put_fields(into: &mut [u8], at: usize, entry: &Record) -> usize
     match entry {
         Record::Begin { session, .. } => put_u32(into, at, *session),
         Record::Commit { .. } | Record::Rollback { .. } => at,
-        Record::HInsert { table, row, after, .. } => {
-            put_change(into, at, *table, *row, after.bytes())
-        }
-        Record::HDelete { table, row, before, .. } => {
-            put_change(into, at, *table, *row, before.bytes())
-        }
-        Record::HUpdate { table, row, rows, .. } => {
+        Record::HInsert {
+            table,
+            row,
+            after,
+            ..
+        } => { put_change(into, at, *table, *row, after.bytes()) }
+        Record::HDelete {
+            table,
+            row,
+            before,
+            ..
+        } => { put_change(into, at, *table, *row, before.bytes()) }
+        Record::HUpdate {
+            table,
+            row,
+            rows,
+            ..
+        } => {
             let at = put_change(into, at, *table, *row, rows.before.bytes());
             put_bytes(into, at, rows.after.bytes())
         }

@@ -1,8 +1,7 @@
-use Rattle.std.proofs.Common.{◌≡◌, eqb, List, ℕ, Bool, true, false, drop, take, Option, Some, refl, sym, ap, ◌∙◌, arith}
+use Rattle.std.proofs.Common.{◌≡◌, eqb, List, ℕ, drop, take, refl, sym, ap, ◌∙◌, arith}
 use Rattle.std.specs.Prelude.{is_some}
 use Rattle.std.specs.List.{list_all}
-use Rattle.log_records.specs.Entries.{Entry}
-use Rattle.log_records.specs.Bodies.{Body, whole_at}
+use Rattle.log_records.specs.Bodies.{whole_at}
 use Rattle.log_records.proofs.BodyReading.{too_long, too_few, other_length, not_zero, looked_at, none_is, accepts}
 use Rattle.log_records.proofs.block_body.BlockBody.from_records.Goals as goal
 use Rattle.log_records.proofs.block_body.BlockBody.from_records.Goals.{then-used-gt2004-via-then-used-gt2004, then-used-gt2004-via-else-used-gt2004+then-count-lt1, then-used-gt2004-via-else-used-gt2004+else-count-lt1+then-bytes-ne2035}
