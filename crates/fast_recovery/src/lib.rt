@@ -10,3 +10,5 @@ pub mod places;
 pub mod replay;
 mod slots;
 mod standing;
+#[cfg(test)]
+mod tests;
