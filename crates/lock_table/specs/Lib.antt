@@ -8,3 +8,4 @@ pub mod Props
 pub mod Requests
 pub mod Sound
 pub mod Table
+pub mod Told

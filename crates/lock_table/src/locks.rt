@@ -7,6 +7,7 @@ ghost use Rattle.ids_base.specs.declared.lock.LockName.{LockName as Name};
 ghost use Rattle.lock_table.specs.Table.{Table, line, holders, queue, mode_held, has_thread, is_full, entry_count, WaitsAt, WaitsNowhere, Becomes, IsTold};
 ghost use Rattle.lock_table.specs.Requests.{IsCovered, is_against, is_overtaken, mode_wanted, wanted, earlier, blocker, taken, queued, withdrawn, released, all_released};
 ghost use Rattle.lock_table.specs.Sound.{IsSound};
+ghost use Rattle.lock_table.specs.Told.{ToldHold};
 
 use crate::asked::look;
 use crate::book::Book;
@@ -273,10 +274,11 @@ impl Locks {
     }
 
     /// A thread whose lock was granted in a queue and that was not told yet, in the order of the grants; none exactly where
-    /// none is left to wake.
+    /// none is left to wake. The thread holds the lock.
     pub fn next_granted(&mut self) -> Option<ThreadNo>
         ensures none { result ≡ None → (self.old.granted ≡ []) × (self.new ≡ self.old) }
         ensures told { (woken : ℕ) → result ≡ Some woken → IsTold self.old self.new woken }
+        ensures told_hold { ToldHold self.old }
     {
         self.book.next_told()
     }

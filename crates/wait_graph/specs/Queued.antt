@@ -6,7 +6,7 @@ use Rattle.ids_base.specs.declared.lock.LockEntry.{LockEntry}
 use Rattle.ids_base.specs.LockNames.{is_same_name}
 use Rattle.ids_base.specs.Waits.{WaitsFor}
 use Rattle.wait_graph.specs.Cycles.{IsCycle}
-use Rattle.lock_table.specs.Table.{Table, Line, line, holders, queue}
+use Rattle.lock_table.specs.Table.{Table, line, holders, queue}
 use Rattle.lock_table.specs.Requests.{wanted, queued}
 
 -- the queue of each name, with the request in its place

@@ -1,5 +1,5 @@
 -- The threads found from a start along waits, each from one found before.
-use Rattle.std.specs.Prelude.{◌≡◌, ◌≢◌, ℕ, ◌+◌, ◌<◌, ◌≤◌, true, List, length, slice_index}
+use Rattle.std.specs.Prelude.{◌≡◌, ◌≢◌, ℕ, ◌<◌, ◌≤◌, true, List, length, slice_index}
 use Rattle.wait_graph.specs.Targets.{among}
 
 -- a waits for b

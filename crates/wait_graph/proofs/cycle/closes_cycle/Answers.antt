@@ -1,12 +1,10 @@
-use Rattle.std.proofs.Common.{◌≡◌, ℕ, List, Result, Ok, Err, Option, Some, None, IfOk, IfSome, refl}
-use Rattle.ids_base.specs.declared.lock.LockEntry.{LockEntry}
-use Rattle.lock_table.specs.Table.{Table, line, holders}
+use Rattle.std.proofs.Common.{Result, Ok, Err, Option, Some, None, IfOk, IfSome, refl}
+use Rattle.lock_table.specs.Table.{line, holders}
 use Rattle.lock_table.specs.Requests.{wanted, is_overtaken}
 use Rattle.wait_graph.specs.declared.next.Asked.{Asked}
 use Rattle.wait_graph.specs.Queued.{WaitsSomewhere, queue_with}
 use Rattle.wait_graph.specs.Search.{Waits}
-use Rattle.wait_graph.specs.Targets.{next, queue_at}
-use Rattle.wait_graph.specs.Cycles.{IsCycle}
+use Rattle.wait_graph.specs.Targets.{next}
 use Rattle.wait_graph.proofs.Edges.{edge-from, edge-to, as-asked, from-asked, cycle-mapped}
 use Rattle.wait_graph.proofs.cycle.closes_cycle.Goals as goal
 

@@ -1,4 +1,4 @@
-use Rattle.std.proofs.Common.{◌≡◌, ◌∙◌, sym, ap, refl}
+use Rattle.std.proofs.Common.{◌∙◌, refl}
 use Rattle.wait_graph.proofs.Trees.{longer-then, all-more}
 use Rattle.wait_graph.proofs.search.add_all.Goals as goal
 

@@ -1,4 +1,4 @@
-use Rattle.std.proofs.Common.{◌≡◌, ℕ, ◌≤◌, length, slice_index}
+use Rattle.std.proofs.Common.{◌≡◌, ◌≤◌, length}
 use Rattle.wait_graph.specs.Targets.{next}
 use Rattle.wait_graph.specs.Search.{IsTree, IsLonger, AreAll}
 use Rattle.wait_graph.proofs.search.add_all.Given as goal

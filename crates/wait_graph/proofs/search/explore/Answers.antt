@@ -1,4 +1,4 @@
-use Rattle.std.proofs.Common.{◌≡◌, ◌∙◌, sym, ap, subst, OnOk, length, slice_index}
+use Rattle.std.proofs.Common.{◌∙◌, ap, subst, OnOk, length}
 use Rattle.std.proofs.lemmas.List.{get_or_read}
 use Rattle.wait_graph.specs.Search.{IsLonger, AreAll}
 use Rattle.wait_graph.specs.Targets.{next as next_of}

@@ -1,7 +1,7 @@
-use Rattle.std.proofs.Common.{◌≡◌, ◌≢◌, ◌∙◌, ◌<◌, ◌+◌, ℕ, sym, ap, subst, length, slice_index, arith, refl, ◌⊎◌, inl, inr, false, true, Ok, List, vec_len}
+use Rattle.std.proofs.Common.{◌≡◌, ◌∙◌, ◌<◌, ◌+◌, ℕ, sym, ap, subst, length, arith, inl, inr, true, Ok, List, vec_len}
 use Rattle.std.proofs.lemmas.Bool.Decides.{eqb_tells}
 use Rattle.wait_graph.specs.Targets.{next as next_of, among}
-use Rattle.wait_graph.specs.Search.{IsTree, IsClosedAt, IsLonger}
+use Rattle.wait_graph.specs.Search.{IsClosedAt, IsLonger}
 use Rattle.wait_graph.proofs.Trees.{none-closed, closed-longer, at-among}
 use Rattle.wait_graph.proofs.search.find_cycle.Goals as goal
 

@@ -1,4 +1,4 @@
-use Rattle.std.proofs.Common.{◌≡◌, ℕ, ◌<◌, ◌≤◌, ◌+◌, ◌-◌, length, slice_index}
+use Rattle.std.proofs.Common.{◌≡◌, ℕ, ◌<◌, ◌≤◌, ◌+◌, ◌-◌, length}
 use Rattle.wait_graph.specs.Targets.{next}
 use Rattle.wait_graph.specs.Search.{IsTree, IsClosedAt}
 use Rattle.wait_graph.proofs.search.find_cycle.Given as goal

@@ -1,4 +1,4 @@
-use Rattle.std.proofs.Common.{◌≡◌, ℕ, ◌<◌, length, slice_index}
+use Rattle.std.proofs.Common.{◌<◌, length, slice_index}
 use Rattle.wait_graph.specs.Targets.{next}
 use Rattle.wait_graph.proofs.Trees.{IsTail}
 use Rattle.wait_graph.proofs.search.path_to.Given as goal
