@@ -1,4 +1,4 @@
--- The lists, blocks and limits stand for the threads, as a thread goes into a queue and out of it.
+-- Where the lists and blocks have a thread, and what they and the limits say of it.
 use Rattle.std.proofs.Common.{◌≡◌, ◌∙◌, ℕ, ◌<◌, List, [], ◌∷◌, length, map, refl, ap, sym, subst, arith, Option, Some, None, IsSome}
 use Rattle.std.specs.List.{slice_get}
 use Rattle.link_lists.specs.Lists.{Lists, list_at, home_at, id_count}
