@@ -1,0 +1,22 @@
+//! Owners of pages.
+ghost use Rattle.std.specs.Prelude.{◌≡◌};
+
+use ids_base::numbers::TableNo;
+use std::marker::Model;
+
+/// The owner of a page: a table, and the length of its rows. Contracts see the pair of both.
+#[derive(Clone, Copy, Debug, PartialEq, Eq)]
+pub struct Owner {
+    pub table: TableNo,
+    pub row_length: u16,
+}
+
+impl Model for Owner {
+    ghost use Rattle.std.specs.Prelude.{ℕ};
+
+    ghost Value = { ℕ × ℕ };
+
+    ghost view = { λ a. (a.table, a.row_length) };
+
+    ghost inverse = { λ p. record { table = p.0; row_length = p.1 } };
+}
