@@ -14,3 +14,4 @@ pub mod Slots
 pub mod Stands
 pub mod Tables
 pub mod Text
+pub mod Covered
