@@ -1,0 +1,248 @@
+//! The buffer.
+ghost use Rattle.std.specs.Prelude.{◌≡◌, ◌<◌, ◌≤◌, ◌+◌, ◌^◌, ◌++◌, ℕ, List, [], ◌∷◌, length, map, true, IfOk, OnOk, OnErr};
+ghost use Rattle.ids_outside.specs.Counts.{HasCause};
+ghost use Rattle.ids_outside.specs.Images.{Image};
+ghost use Rattle.ids_outside.specs.Stops.{Leaves};
+ghost use Rattle.log_records.specs.Entries.{Entry};
+ghost use Rattle.log_records.specs.Says.{entry_of};
+ghost use Rattle.log_records.specs.Spelling.{entry_size};
+ghost use Rattle.log_records.specs.Bodies.{Body};
+ghost use Rattle.log_files.specs.Files.{AreNumbered, Appends, IsReady, retained, taken};
+ghost use Rattle.log_buffer.specs.Buffers.{IsBuffer, empty_at, waiting, fits_last, joined, last_count, has_room, block_for, place_for, tail_of, appended, bodies};
+ghost use Rattle.log_buffer.specs.Kept.{Flushed, KeepsLog, Outlives};
+
+use ids_base::memory::Memory;
+use ids_base::position::LogPos;
+use ids_outside::{Disk, DiskFault};
+use log_files::LogFiles;
+use log_records::block_body::{BlockBody, put};
+use log_records::record::Record;
+use std::alloc::Global;
+use std::marker::Model;
+
+/// How many blocks may be begun.
+const BLOCKS: usize = 8;
+
+/// The buffer of the log. Contracts see the records of each block that is begun, and the number of the first of these.
+#[derive(Drop)]
+pub struct LogBuffer {
+    // Eight bodies, of which the first `begun` have records.
+    bodies: Vec<BlockBody>,
+    begun: usize,
+    first: u64,
+}
+
+impl Model for LogBuffer {
+    ghost use Rattle.log_buffer.specs.Buffers.{Buffer};
+    ghost use Rattle.log_buffer.specs.Holding.{begun_blocks, IsHeld};
+
+    ghost Value = { Buffer };
+
+    ghost view = { λ a. record { first = a.first; blocks = begun_blocks a.begun a.bodies.items } };
+
+    ghost invariant = { λ a. IsHeld a.bodies.items a.begun a.first };
+}
+
+impl LogBuffer {
+    /// A buffer without records, whose first block will have this number. Takes all its memory here.
+    pub fn new(alloc: Global, first: u64) -> Result<LogBuffer, Memory>
+        ensures { IfOk result (λ b. b ≡ empty_at first) }
+    {
+        let mut bodies = Vec::with_capacity(alloc, BLOCKS)?;
+        for _ in 0..BLOCKS {
+            bodies.push_reserved(BlockBody::new(0));
+        }
+        Ok(LogBuffer {
+            bodies,
+            begun: 0,
+            first,
+        })
+    }
+
+    /// Whether a record of this size has room: in the last block, or in one more of at most eight. Constant time.
+    pub fn has_room(&self, size: u16) -> bool
+        ensures { result ≡ has_room self.now size }
+    {
+        self.fits_last(size) || self.begun < BLOCKS
+    }
+
+    /// The number of the block that a record of this size joins or begins. Constant time.
+    pub fn block_for(&self, size: u16) -> u64
+        requires { self.now.first < 2 ^ 63 }
+        ensures { result ≡ block_for self.now size }
+    {
+        let next = self.first + self.begun as u64;
+        if self.fits_last(size) { next - 1 } else { next }
+    }
+
+    /// Puts a record at the end, and gives its place. Takes no memory; in time of the record's size, and of a block where one
+    /// is begun.
+    pub fn append(&mut self, entry: &Record) -> LogPos
+        requires room { has_room self.old (entry_size (entry_of entry.now)) ≡ true }
+        requires number { self.old.first < 2 ^ 63 }
+        ensures appended { self.new ≡ appended self.old (entry_of entry.now) }
+        ensures place { result ≡ place_for self.old (entry_size (entry_of entry.now)) }
+        ensures waiting { waiting self.new ≡ waiting self.old ++ entry_of entry.now ∷ [] }
+    {
+        let size = size_of(entry);
+        let block = self.block_for(size);
+        if self.fits_last(size) {
+            let index = self.last_count();
+            self.join(entry);
+            LogPos { block, index }
+        } else {
+            self.begin(entry);
+            LogPos { block, index: 0 }
+        }
+    }
+
+    /// How many blocks are begun. Constant time.
+    pub fn block_count(&self) -> u64
+        ensures count { result ≡ length self.now.blocks }
+        ensures few { result ≤ 8 }
+        // Each of them has a record, and no more than fit.
+        ensures buffer { IsBuffer self.now }
+    {
+        self.begun as u64
+    }
+
+    /// The position before which all is flushed: the first place of the first block that is not. Constant time.
+    pub fn flushed(&self) -> LogPos
+        ensures { result ≡ record { block = self.now.first; index = 0 } }
+    {
+        LogPos {
+            block: self.first,
+            index: 0,
+        }
+    }
+
+    /// Where the next record goes, if it fits there: behind the last one, or to the first place of the next block where none
+    /// is begun. Constant time.
+    pub fn tail(&self) -> LogPos
+        requires { self.now.first < 2 ^ 63 }
+        ensures { result ≡ tail_of self.now }
+    {
+        LogPos {
+            block: self.first + self.begun.saturating_sub(1) as u64,
+            index: self.last_count(),
+        }
+    }
+
+    /// Writes all records to the log files, and syncs. After it a stop leaves them all, and no block is begun. After a fault
+    /// the log is to be opened again. Takes no memory; the cost of `append_blocks`.
+    pub fn flush<D: Disk>(&mut self, disk: &mut D, files: &mut LogFiles) -> Result<(), DiskFault>
+        requires ready { IsReady D.size D.image D.can_leave files.old disk.old }
+        requires numbered { self.old.first ≡ files.old.next }
+        requires room { files.old.next + length self.old.blocks ≤ files.old.limit }
+
+        ensures emptied { OnOk result (self.new ≡ empty_at (self.old.first + length self.old.blocks)) }
+        ensures err { OnErr result (self.new ≡ self.old) }
+        ensures taken { OnOk result (files.new ≡ taken files.old (length self.old.blocks)) }
+        ensures ready { OnOk result (IsReady D.size D.image D.can_leave files.new disk.new) }
+        // What was appended is on the disk for good from now on.
+        ensures kept { OnOk result ((since : ℕ) (base : Image) (before all : List Entry) (marks : List Flushed)
+            → KeepsLog D.size D.now D.image D.can_leave D.left_at since base before all marks files.old self.old disk.old
+            → KeepsLog D.size D.now D.image D.can_leave D.left_at since base before all (marks ++ record { at = D.now disk.new; count = length all } ∷ []) files.new self.new disk.new) }
+        // A fault leaves a front of it, with at least what was flushed before.
+        ensures outlives { OnErr result ((since : ℕ) (base : Image) (before all : List Entry) (marks : List Flushed)
+            → KeepsLog D.size D.now D.image D.can_leave D.left_at since base before all marks files.old self.old disk.old
+            → Outlives D.now D.left_at since base before all marks files.old disk.new) }
+        ensures appended { OnOk result (D.tells → retained files.new (D.image disk.new) ≡ retained files.old (D.image disk.old) ++ bodies self.old.first self.old.blocks) }
+        ensures any_moment { Leaves D.now D.can_leave D.left_at disk.old disk.new (Appends files.old (bodies self.old.first self.old.blocks)) }
+        ensures sizes { (j : ℕ) → D.size disk.new j ≡ D.size disk.old j }
+        ensures cause { HasCause (D.fault_count disk.old) (D.fault_count disk.new) result }
+    {
+        let free = files.free();
+        prove!(self.block_count() <= free);
+        files.append_blocks(disk, self.begun_bodies())?;
+        self.empty();
+        Ok(())
+    }
+
+    // The bodies of the blocks that are begun.
+    fn begun_bodies(&self) -> &[BlockBody]
+        ensures numbered { AreNumbered self.now.first result.now }
+        ensures blocks { map (λ (b : Body). b.entries) result.now ≡ self.now.blocks }
+        ensures count { length result.now ≡ length self.now.blocks }
+    {
+        &self.bodies[..self.begun]
+    }
+
+    // No block is begun, and the next goes on behind those that were.
+    fn empty(&mut self)
+        requires { self.old.first + length self.old.blocks < 2 ^ 64 }
+        ensures { self.new ≡ empty_at (self.old.first + length self.old.blocks) }
+    {
+        self.first += self.begun as u64;
+        self.begun = 0;
+    }
+
+    // Whether a record of this size fits into the last block.
+    fn fits_last(&self, size: u16) -> bool
+        ensures { result ≡ fits_last self.now.blocks size }
+    {
+        self.begun > 0 && self.bodies[self.begun - 1].has_room(size)
+    }
+
+    // How many records the last block has.
+    fn last_count(&self) -> u16
+        ensures { result ≡ last_count self.now.blocks }
+    {
+        if self.begun == 0 {
+            0
+        } else {
+            self.bodies[self.begun - 1].count()
+        }
+    }
+
+    // Puts a record into the last block, where it fits.
+    fn join(&mut self, entry: &Record)
+        requires { fits_last self.old.blocks (entry_size (entry_of entry.now)) ≡ true }
+        ensures { self.new ≡ record self.old { blocks = joined self.old.blocks (entry_of entry.now) } }
+    {
+        let is_put = put(entry, &mut self.bodies[self.begun - 1]);
+        prove!(is_put);
+    }
+
+    // Begins a block with a record.
+    fn begin(&mut self, entry: &Record)
+        requires room { length self.old.blocks < 8 }
+        requires number { self.old.first < 2 ^ 63 }
+        ensures { self.new ≡ record self.old { blocks = self.old.blocks ++ (entry_of entry.now ∷ []) ∷ [] } }
+    {
+        let number = self.first + self.begun as u64;
+        self.bodies[self.begun] = body_with(number, entry);
+        self.begun += 1;
+    }
+}
+
+// A body with one record.
+fn body_with(number: u64, entry: &Record) -> BlockBody
+    ensures body { result ≡ record { number = number; entries = entry_of entry.now ∷ [] } }
+    ensures within { entry_size (entry_of entry.now) ≤ 2004 }
+{
+    let size = size_of(entry);
+    prove!(size as usize <= 2004);
+    let mut body = BlockBody::new(number);
+    let is_put = put(entry, &mut body);
+    prove!(is_put);
+    body
+}
+
+// The size of a record, which fits into an empty block.
+fn size_of(entry: &Record) -> u16
+    ensures size { result ≡ entry_size (entry_of entry.now) }
+    ensures fits { result ≤ 2004 }
+{
+    match entry {
+        Record::Begin { .. } | Record::Commit { .. } | Record::Rollback { .. } => {}
+        Record::HInsert { after, .. } => prove!(after.bytes().len() <= 800),
+        Record::HDelete { before, .. } => prove!(before.bytes().len() <= 800),
+        Record::HUpdate { rows, .. } => {
+            prove!(rows.before.bytes().len() <= 800);
+            prove!(rows.after.bytes().len() <= 800);
+        }
+        Record::Ckpoint { named } => prove!(named.as_slice().len() <= 64),
+    }
+    entry.size()
+}
