@@ -4,12 +4,20 @@ use Rattle.std.specs.Coded.{Coded, code_by, coded×, coded_ℕ, coded_list, code
 use Rattle.std.specs.FinMap as map
 use Rattle.ids_model.specs.Slots.{Bytes, Own, Slots}
 use Rattle.ids_model.specs.Recovered.{SlotChange, State}
+use Rattle.fast_recovery.specs.Found.{Numbers}
+use Rattle.fast_recovery.specs.Reading.{Names}
 
 abbrev pub coded_own : Coded Own
 coded_own = map.code coded_ℕ (coded× coded_ℕ coded_ℕ)
 
 abbrev pub coded_slots : Coded Slots
 coded_slots = map.code coded_ℕ (coded_list coded_ℕ)
+
+abbrev pub coded_numbers : Coded Numbers
+coded_numbers = map.code (coded_list coded_ℕ) coded_ℕ
+
+abbrev pub coded_names : Coded Names
+coded_names = map.code coded_ℕ (coded_list coded_ℕ)
 
 abbrev pub coded_rows : Coded (Option Bytes × Option Bytes)
 coded_rows = coded× (coded_option (coded_list coded_ℕ)) (coded_option (coded_list coded_ℕ))

@@ -1,3 +1,12 @@
 pub mod Changed
 pub mod Codes
 pub mod Places
+pub mod Images
+pub mod Order
+pub mod Found
+pub mod Reading
+pub mod CatalogueRead
+pub mod RowsRead
+pub mod LogRead
+pub mod Faults
+pub mod Opening

@@ -1,14 +1,29 @@
 //! Fast recovery: what the records of the log make of pages and rows.
 //!
 //! Read in this order: the parts, which are the owners of pages, the rows in slots and the standing changes; the replay of a
-//! log, which has all three; and where a new row goes.
+//! log, which has all three; where a new row goes; the tables that pages and rows stand for, which are found by the rows of
+//! the catalogue first and the other rows after them; and opening, which replays the log of a disk.
 #![tactic(auto)]
 
+mod catalogue;
+mod fault;
+mod names;
+mod numbers;
+pub mod opening;
+#[cfg(test)]
+mod opening_tests;
 pub mod owner;
 mod owners;
+mod past;
 pub mod places;
 pub mod replay;
+mod roll_forward;
+mod rows;
 mod slots;
 mod standing;
+pub mod tables;
 #[cfg(test)]
 mod tests;
+
+pub use fault::OpenFault;
+pub use numbers::TableNumbers;

@@ -1,5 +1,6 @@
 //! Owners of pages.
-ghost use Rattle.std.specs.Prelude.{◌≡◌};
+ghost use Rattle.std.specs.Prelude.{◌≡◌, ◌↔◌, IsTrue};
+ghost use Rattle.ids_model.specs.Stands.{catalogue};
 
 use ids_base::numbers::TableNo;
 use std::marker::Model;
@@ -19,4 +20,13 @@ impl Model for Owner {
     ghost view = { λ a. (a.table, a.row_length) };
 
     ghost inverse = { λ p. record { table = p.0; row_length = p.1 } };
+}
+
+impl Owner {
+    /// Whether this is the owner of the pages of the catalogue.
+    pub(crate) fn is_catalogue(&self) -> bool
+        ensures { IsTrue result ↔ (self.now ≡ catalogue) }
+    {
+        self.table == 1 && self.row_length == 359
+    }
 }

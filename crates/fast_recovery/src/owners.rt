@@ -1,6 +1,6 @@
 //! The owners of pages.
 ghost use Rattle.std.specs.Prelude.{◌≡◌, ◌≤◌, ◌⊎◌, ℕ, OnOk};
-ghost use Rattle.std.specs.FinMap.{empty};
+ghost use Rattle.std.specs.FinMap.{empty, entries};
 ghost use Rattle.ids_model.specs.Slots.{own_at, set_own};
 
 use crate::owner::Owner;
@@ -8,6 +8,7 @@ use ids_base::memory::Memory;
 use ids_base::numbers::TableNo;
 use std::alloc::Global;
 use std::collections::BTreeMap;
+use std::collections::btree_map::Iter;
 use std::marker::Model;
 
 /// The pages that have an owner. Contracts see the finite map from page to owner.
@@ -51,6 +52,13 @@ impl Owners {
     {
         self.owners.insert(page, owner)?;
         Ok(())
+    }
+
+    /// All pages that have an owner, with the owner and by page.
+    pub fn iter(&self) -> Iter<'_, u32, Owner>
+        ensures { result ≡ entries self.now }
+    {
+        self.owners.iter()
     }
 
     /// The greatest number of a table that owns a page, and 99 where that is less. Linear.

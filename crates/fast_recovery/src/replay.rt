@@ -132,6 +132,25 @@ impl Replay {
         self.slots.holds(slot)
     }
 
+    // Where it takes memory.
+    pub(crate) fn alloc(&self) -> Global {
+        self.alloc
+    }
+
+    // The owners of pages.
+    pub(crate) fn owners(&self) -> &Owners
+        ensures { result.now ≡ self.now.own }
+    {
+        &self.owners
+    }
+
+    // The rows in slots.
+    pub(crate) fn slots(&self) -> &FilledSlots
+        ensures { result.now ≡ self.now.slots }
+    {
+        &self.slots
+    }
+
     // Takes back the changes of a transaction.
     fn roll_back(&mut self, tx: TxNo) -> Result<(), Memory>
         ensures { OnOk result (self.new ≡ run self.old (says.Rollback tx ∷ [])) }

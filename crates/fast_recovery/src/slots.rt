@@ -1,12 +1,13 @@
 //! The rows in slots.
 ghost use Rattle.std.specs.Prelude.{◌≡◌, OnOk, option_copied, is_some};
-ghost use Rattle.std.specs.FinMap.{empty};
+ghost use Rattle.std.specs.FinMap.{empty, entries};
 ghost use Rattle.ids_model.specs.Slots.{slot_at, set_slot};
 
 use ids_base::memory::Memory;
 use ids_base::row_bytes::RowBytes;
 use std::alloc::Global;
 use std::collections::BTreeMap;
+use std::collections::btree_map::Iter;
 use std::marker::Model;
 
 /// The slots that hold a row. Contracts see the finite map from row id to the bytes of the row.
@@ -52,6 +53,13 @@ impl FilledSlots {
         ensures { result ≡ is_some (slot_at self.now slot) }
     {
         self.rows.contains_key(&slot)
+    }
+
+    /// All rows, with their row ids and by row id.
+    pub fn iter(&self) -> Iter<'_, u32, RowBytes>
+        ensures { result ≡ entries self.now }
+    {
+        self.rows.iter()
     }
 
     /// Puts a row into a slot, or empties it, in logarithmic time.

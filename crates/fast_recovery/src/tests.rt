@@ -1,8 +1,11 @@
 //! Worked examples.
 use crate::owner::Owner;
 use crate::replay::Replay;
+use crate::tables::{Found, TablesFault};
+use ids_base::name::Name;
 use ids_base::row_bytes::RowBytes;
 use ids_base::row_id::RowId;
+use ids_base::value::{Row, Value};
 use log_records::record::{Record, Updated};
 use std::alloc::Global;
 use std::test::Fail;
@@ -178,5 +181,141 @@ fn rows_go_to_the_least_place(rt: HostRuntime) -> Result<(), Fail> {
         "both pages have other owners"
     );
     assert_eq!(rt; place(&replay, 100, 8, 1), 0, "page 2 is not there");
+    Ok(())
+}
+
+fn tables(replay: &Replay) -> Result<Found, Fail> {
+    Ok(replay.tables()?)
+}
+
+// The row id at which pages and rows are damaged, 0 where they are not.
+fn damage(replay: &Replay) -> u32 {
+    match replay.tables() {
+        Err(TablesFault::Damaged(row)) => row,
+        _ => 0,
+    }
+}
+
+fn table_number(found: &Found, name: &[u8]) -> Option<u32> {
+    found.numbers.get(&Name::new(name)?)
+}
+
+// The text beside a key of table t.
+fn text(found: &Found, key: i32) -> &[u8] {
+    let Some(name) = Name::new(b"t") else {
+        return b"";
+    };
+    let Some(table) = found.tables.table(&name) else {
+        return b"";
+    };
+    match table.row(&Value::Int(key)) {
+        None => b"",
+        Some(row) => text_of(row),
+    }
+}
+
+fn text_of(row: &Row) -> &[u8] {
+    match row.as_slice() {
+        [_, Value::Chars(text)] => text.bytes(),
+        _ => b"",
+    }
+}
+
+// The row of the catalogue with another number, below 256, and another name of one byte.
+fn another_row(number: u8, name: u8) -> [u8; 359] {
+    let mut row = catalogue_row();
+    row[3] = number;
+    row[4] = name;
+    row
+}
+
+// Table t and its row, and one more row.
+fn with_row(alloc: Global, table: u32, slot: u32, bytes: &[u8]) -> Result<Replay, Fail> {
+    let mut replay = two_transactions(alloc)?;
+    go_on(&mut replay, insert(alloc, 2, table, slot, bytes)?)?;
+    Ok(replay)
+}
+
+fn tables_with(alloc: Global, table: u32, slot: u32, bytes: &[u8]) -> Result<Found, Fail> {
+    let replay = with_row(alloc, table, slot, bytes)?;
+    tables(&replay)
+}
+
+fn damage_with(alloc: Global, table: u32, slot: u32, bytes: &[u8]) -> Result<u32, Fail> {
+    let replay = with_row(alloc, table, slot, bytes)?;
+    Ok(damage(&replay))
+}
+
+// A page of table 250 whose only row is gone.
+fn with_empty_page(alloc: Global) -> Result<Found, Fail> {
+    let mut replay = with_row(alloc, 250, 769, CD)?;
+    go_on(&mut replay, delete(alloc, 2, 769, CD)?)?;
+    tables(&replay)
+}
+
+// A row in page 4, which has no owner.
+fn damage_without_owner(alloc: Global) -> Result<u32, Fail> {
+    let mut replay = two_transactions(alloc)?;
+    go_on(&mut replay, update(alloc, 1025, AB, CD)?)?;
+    Ok(damage(&replay))
+}
+
+#[test]
+fn no_tables_are_found_in_nothing(rt: HostRuntime) -> Result<(), Fail> {
+    let found = tables(&Replay::new(rt.alloc()))?;
+    assert_eq!(rt; found.greatest, 99);
+    assert_eq!(rt; table_number(&found, b"t"), None);
+    Ok(())
+}
+
+#[test]
+fn tables_are_found(rt: HostRuntime) -> Result<(), Fail> {
+    let found = tables_with(rt.alloc(), 1, 258, &another_row(200, b'u'))?;
+    assert_eq!(rt; table_number(&found, b"t"), Some(100));
+    assert_eq!(rt; table_number(&found, b"u"), Some(200));
+    assert_eq!(rt; table_number(&found, b"v"), None);
+    assert_eq!(rt; text(&found, 7), b"ab".as_slice());
+    assert_eq!(rt; text(&found, 8), b"".as_slice());
+    assert_eq!(rt; found.greatest, 200, "no page is of table 200");
+    Ok(())
+}
+
+#[test]
+fn pages_without_rows_count(rt: HostRuntime) -> Result<(), Fail> {
+    let found = with_empty_page(rt.alloc())?;
+    assert_eq!(rt; found.greatest, 250);
+    assert_eq!(rt; text(&found, 7), b"ab".as_slice());
+    Ok(())
+}
+
+#[test]
+fn damaged_catalogues_are_refused(rt: HostRuntime) -> Result<(), Fail> {
+    let alloc = rt.alloc();
+    let name_twice = damage_with(alloc, 1, 258, &another_row(101, b't'))?;
+    assert_eq!(rt; name_twice, 258);
+    let number_twice = damage_with(alloc, 1, 258, &another_row(100, b'u'))?;
+    assert_eq!(rt; number_twice, 258);
+    let low_number = damage_with(alloc, 1, 258, &another_row(99, b'u'))?;
+    assert_eq!(rt; low_number, 258);
+    let short_row = damage_with(alloc, 1, 770, AB)?;
+    assert_eq!(rt; short_row, 769, "a page of table 1");
+    Ok(())
+}
+
+#[test]
+fn damaged_rows_are_refused(rt: HostRuntime) -> Result<(), Fail> {
+    let alloc = rt.alloc();
+    let good = damage_with(alloc, 100, 514, b"\x00\x00\x00\x08ab  ")?;
+    assert_eq!(rt; good, 0);
+    let unowned = damage_without_owner(alloc)?;
+    assert_eq!(rt; unowned, 1025);
+    let unnamed = damage_with(alloc, 101, 769, CD)?;
+    assert_eq!(rt; unnamed, 769);
+    let unread = damage_with(alloc, 100, 514, b"\x80\x00\x00\x00ab  ")?;
+    assert_eq!(rt; unread, 514);
+    let key_twice = damage_with(alloc, 100, 514, CD)?;
+    assert_eq!(rt; key_twice, 514);
+    let long = damage_with(alloc, 100, 770, b"\x00\x00\x00\x08ab   ")?;
+    assert_eq!(rt; long, 769, "a page of rows of 9 bytes");
     Ok(())
 }

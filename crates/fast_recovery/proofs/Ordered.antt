@@ -1,0 +1,143 @@
+-- Records in order, and what stands after them.
+use Rattle.std.proofs.Common.{◌≡◌, ℕ, suc, ◌+◌, ◌<◌, ◌≤◌, ◌==◌, Bool, true, false, cond, List, [], ◌∷◌, ◌++◌, length, map, take, get_or, Option, Some, None, refl, sym, ◌∙◌, ap, subst, arith, eq-eqb, ◌&&◌, zero}
+use Rattle.std.proofs.Math.Dec.{leb-zero}
+use Rattle.std.specs.Prelude.{option_and_then, nat_le}
+use Rattle.log_records.specs.Entries.{Entry, Begin, Commit, Rollback, HInsert, HDelete, HUpdate, Ckpoint}
+use Rattle.log_records.specs.Spelling.{tx_of}
+use Rattle.ids_model.specs.Recovered.{SlotChange, State, run, AreOf, of_tx, note, noted, others, kept, inserted, deleted, updated}
+use Rattle.ids_model.specs.RecoveryLaws.{RunsJoin}
+use Rattle.fast_recovery.specs.Order.{open_by, open_in}
+use Rattle.fast_recovery.specs.LogRead.{AreUpTo, AreAlone, GoesOn}
+use Rattle.fast_recovery.specs.declared.past.Past.{Past}
+
+-- records, and others behind them
+pub open_in-append : (o : Option ℕ) (xs ys : List Entry) → open_in o (xs ++ ys) ≡ option_and_then (λ p. open_in p ys) (open_in o xs)
+open_in-append o [] ys = refl
+open_in-append o (e ∷ xs) ys = at (open_by o e) (λ p. open_in-append p xs ys)
+  where
+    at : (m : Option (Option ℕ)) → ((p : Option ℕ) → open_in p (xs ++ ys) ≡ option_and_then (λ q. open_in q ys) (open_in p xs))
+        → option_and_then (λ p. open_in p (xs ++ ys)) m ≡ option_and_then (λ q. open_in q ys) (option_and_then (λ p. open_in p xs) m)
+    at None more = refl
+    at (Some p) more = more p
+
+pub open_in-then : (o p : Option ℕ) (xs ys : List Entry) → open_in o xs ≡ Some p → open_in o (xs ++ ys) ≡ open_in p ys
+open_in-then o p xs ys is = open_in-append o xs ys ∙ ap (λ m. option_and_then (λ q. open_in q ys) m) is
+
+-- a record out of order, whatever follows
+pub open_in-none : (o p : Option ℕ) (xs : List Entry) (e : Entry) (rest : List Entry) → open_in o xs ≡ Some p → open_by p e ≡ None → open_in o (xs ++ e ∷ rest) ≡ None
+open_in-none o p xs e rest is none = open_in-then o p xs (e ∷ rest) is ∙ ap (λ m. option_and_then (λ q. open_in q rest) m) none
+
+pub up_to-wider : (m n : ℕ) (es : List Entry) → m ≤ n → AreUpTo m es → AreUpTo n es
+up_to-wider m n [] le each = tt
+up_to-wider m n (e ∷ es) le each = (let d : tx_of e ≤ n = omega (arith, le, each.0) in d, up_to-wider m n es le each.1)
+
+pub up_to-append : (n : ℕ) (xs ys : List Entry) → AreUpTo n xs → AreUpTo n ys → AreUpTo n (xs ++ ys)
+up_to-append n [] ys each others = others
+up_to-append n (x ∷ xs) ys each others = (each.0, up_to-append n xs ys each.1 others)
+
+-- by no records a past stays
+pub goes-none : (p : Past) → GoesOn p [] p
+goes-none p = record { order = refl; replay = refl; greatest = tt; rises = omega arith }
+
+-- by records and others it goes on as by both
+pub goes-both : RunsJoin → (p q r : Past) (xs ys : List Entry) → GoesOn p xs q → GoesOn q ys r → GoesOn p (xs ++ ys) r
+goes-both join p q r xs ys one two = record {
+  order = open_in-then p.open_tx q.open_tx xs ys one.order ∙ two.order;
+  replay = two.replay ∙ ap (λ (s : State). run s ys) one.replay ∙ sym (join p.replay xs ys);
+  greatest = up_to-append r.last_tx xs ys (up_to-wider q.last_tx r.last_tx xs two.rises one.greatest) two.greatest;
+  rises = omega (arith, one.rises, two.rises);
+}
+
+-- an element of a mapped list stands between the front and the rest
+map-split : {A B : Type 0} (f : A → B) (xs : List A) (i : ℕ) (d : A) → i < length (map f xs) → (rest : List B) × (map f xs ≡ take i (map f xs) ++ f (get_or xs i d) ∷ rest)
+map-split f [] i d lt = absurd (omega (arith, lt))
+map-split f (x ∷ xs) zero d lt = (map f xs, refl)
+map-split f (x ∷ xs) (suc i) d lt = let more = map-split f xs i d (omega (arith, lt)) in (more.0, ap (λ l. f x ∷ l) more.1)
+
+take-map : {A B : Type 0} (f : A → B) (xs : List A) (i : ℕ) (d : A) → i < length (map f xs) → take (suc i) (map f xs) ≡ take i (map f xs) ++ f (get_or xs i d) ∷ []
+take-map f [] i d lt = absurd (omega (arith, lt))
+take-map f (x ∷ xs) zero d lt = refl
+take-map f (x ∷ xs) (suc i) d lt = ap (λ l. f x ∷ l) (take-map f xs i d (omega (arith, lt)))
+
+module _ {A B : Type 0} (f : A → B) (xs : List A) (ys : List B) (i : ℕ) (r : A) (are : map f xs ≡ ys) (is : r ≡ get_or xs i r) (lt : i < length ys) where
+  below : i < length (map f xs)
+  below = subst (λ (l : List B). i < length l) (sym are) lt
+
+  pub mapped-split : (rest : List B) × (ys ≡ take i ys ++ f r ∷ rest)
+  mapped-split =
+      let split = map-split f xs i r below in
+      (split.0, subst (λ (l : List B). l ≡ take i l ++ f r ∷ split.0) are (split.1 ∙ ap (λ a. take i (map f xs) ++ f a ∷ split.0) (sym is)))
+
+  pub mapped-take : take (i + 1) ys ≡ take i ys ++ f r ∷ []
+  mapped-take =
+      let e : i + 1 ≡ suc i = omega arith in
+      subst (λ (l : List B). take (i + 1) l ≡ take i l ++ f r ∷ []) are
+      (ap (λ n. take n (map f xs)) e ∙ take-map f xs i r below ∙ ap (λ a. take i (map f xs) ++ f a ∷ []) (sym is))
+
+eqb-eq : (a b : ℕ) → (a == b) ≡ true → a ≡ b
+eqb-eq a b h = grind (arith, h)
+
+module _ (tx : ℕ) where
+  -- where the changes are of one transaction, none is left when they are forgotten, or taken back
+  pub others-none : (cs : List SlotChange) → AreOf tx cs → others tx cs ≡ []
+  others-none [] of = refl
+  others-none (c ∷ cs) of = ap (λ b. cond b (others tx cs) (c ∷ others tx cs)) (eq-eqb c.tx tx of.0) ∙ others-none cs of.1
+
+  pub kept-none : (cs : List SlotChange) → AreOf tx cs → kept tx 0 cs ≡ []
+  kept-none [] of = refl
+  kept-none (c ∷ cs) of =
+      ap (λ b. cond (b && nat_le 0 (length (of_tx tx cs))) (kept tx 0 cs) (c ∷ kept tx 0 cs)) (eq-eqb c.tx tx of.0)
+      ∙ ap (λ b. cond b (kept tx 0 cs) (c ∷ kept tx 0 cs)) (leb-zero (length (of_tx tx cs))) ∙ kept-none cs of.1
+
+-- one more change, by the open transaction
+stays : (o tx : ℕ) (p : Option ℕ) (cs : List SlotChange) (c : SlotChange) → c.tx ≡ tx → AreOf o cs → cond (o == tx) (Some (Some o)) None ≡ Some p → AreAlone p (c ∷ cs)
+stays o tx p cs c by alone is = at (o == tx) refl is
+  where
+    at : (b : Bool) → (o == tx) ≡ b → cond b (Some (Some o)) None ≡ Some p → AreAlone p (c ∷ cs)
+    at false is' h = cc
+    at true is' h = let now : Some o ≡ p = cc in let same : c.tx ≡ o = by ∙ sym (eqb-eq o tx is') in subst (λ q. AreAlone q (c ∷ cs)) now (same, alone)
+
+-- one more record, while what stands is of the open transaction alone
+alone-note : (o p : Option ℕ) (e : Entry) (cs : List SlotChange) → AreAlone o cs → open_by o e ≡ Some p → AreAlone p (note cs e)
+alone-note None p (Begin tx session) cs alone is = subst (λ q. AreAlone q cs) is' (subst (λ l. AreOf tx l) (sym alone) tt)
+  where
+    is' : Some tx ≡ p
+    is' = cc
+alone-note (Some o) p (Begin tx session) cs alone is = cc
+alone-note None p (Commit tx) cs alone is = cc
+alone-note (Some o) p (Commit tx) cs alone is = ends (o == tx) refl is
+  where
+    ends : (b : Bool) → (o == tx) ≡ b → cond b (Some None) None ≡ Some p → AreAlone p (others tx cs)
+    ends false is' h = cc
+    ends true is' h =
+        let now : None ≡ p = cc in let same : o ≡ tx = eqb-eq o tx is' in
+        subst (λ q. AreAlone q (others tx cs)) now (others-none tx cs (subst (λ t. AreOf t cs) same alone))
+alone-note None p (Rollback tx) cs alone is = cc
+alone-note (Some o) p (Rollback tx) cs alone is = ends (o == tx) refl is
+  where
+    ends : (b : Bool) → (o == tx) ≡ b → cond b (Some None) None ≡ Some p → AreAlone p (kept tx 0 cs)
+    ends false is' h = cc
+    ends true is' h =
+        let now : None ≡ p = cc in let same : o ≡ tx = eqb-eq o tx is' in
+        subst (λ q. AreAlone q (kept tx 0 cs)) now (kept-none tx cs (subst (λ t. AreOf t cs) same alone))
+alone-note None p (HInsert tx table slot after) cs alone is = cc
+alone-note (Some o) p (HInsert tx table slot after) cs alone is = stays o tx p cs (inserted tx slot after) refl alone is
+alone-note None p (HDelete tx table slot before) cs alone is = cc
+alone-note (Some o) p (HDelete tx table slot before) cs alone is = stays o tx p cs (deleted tx slot before) refl alone is
+alone-note None p (HUpdate tx table slot before after) cs alone is = cc
+alone-note (Some o) p (HUpdate tx table slot before after) cs alone is = stays o tx p cs (updated tx slot before after) refl alone is
+alone-note o p (Ckpoint named) cs alone is = let same : o ≡ p = cc in subst (λ q. AreAlone q cs) same alone
+
+-- what stands stays of the open transaction alone
+pub alone-run : (o p : Option ℕ) (es : List Entry) (cs : List SlotChange) → AreAlone o cs → open_in o es ≡ Some p → AreAlone p (noted cs es)
+alone-run o p [] cs alone is = let same : o ≡ p = cc in subst (λ q. AreAlone q cs) same alone
+alone-run o p (e ∷ es) cs alone is = at (open_by o e) refl is (λ q step rest. alone-run q p es (note cs e) (alone-note o q e cs alone step) rest)
+  where
+    at : (m : Option (Option ℕ)) → open_by o e ≡ m → option_and_then (λ q. open_in q es) m ≡ Some p
+        → ((q : Option ℕ) → open_by o e ≡ Some q → open_in q es ≡ Some p → AreAlone p (noted (note cs e) es)) → AreAlone p (noted (note cs e) es)
+    at None step h more = cc
+    at (Some q) step h more = more q step h
+
+pub alone-goes : (p : Past) (es : List Entry) (q : Past) → AreAlone p.open_tx p.replay.standing → GoesOn p es q → AreAlone q.open_tx q.replay.standing
+alone-goes p es q alone goes =
+    subst (λ (s : State). AreAlone q.open_tx s.standing) (sym goes.replay) (alone-run p.open_tx q.open_tx es p.replay.standing alone goes.order)

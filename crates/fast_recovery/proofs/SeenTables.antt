@@ -1,0 +1,55 @@
+-- The ROLLBACK of the open transaction leaves the tables that are recovered.
+use Rattle.std.proofs.Common.{◌≡◌, ℕ, List, [], ◌∷◌, ◌++◌, Option, Some, None, refl, sym, ◌∙◌, ap, subst}
+use Rattle.std.proofs.lemmas.List.{append-nil}
+use Rattle.ids_outside.specs.Images.{Image, SameBut}
+use Rattle.gate_blocks.specs.Gates.{RegionPlaces}
+use Rattle.chunk_map.specs.declared.layout.Layout.{Layout}
+use Rattle.chunk_map.specs.Formatted.{HasLayout}
+use Rattle.log_records.specs.Entries.{Entry, Rollback}
+use Rattle.log_files.specs.Files.{Files}
+use Rattle.log_buffer.specs.Kept.{HasLog, tail_entries}
+use Rattle.ids_model.specs.Tables.{Tables}
+use Rattle.ids_model.specs.Recovered.{State, nothing, run, seen, AreOf}
+use Rattle.ids_model.specs.Stands.{Stands}
+use Rattle.ids_model.specs.Logged.{IsRecovered}
+use Rattle.ids_model.specs.RecoveryLaws.{RunsJoin, RollbacksAreSeen}
+use Rattle.fast_recovery.specs.Images.{HasEmptyBase, log_region, log_in}
+use Rattle.fast_recovery.specs.Order.{open_in, closing}
+use Rattle.fast_recovery.specs.LogRead.{AreAlone}
+use Rattle.fast_recovery.specs.Opening.{KeepsTables}
+use Rattle.fast_recovery.proofs.Ordered.{alone-run}
+use Rattle.fast_recovery.proofs.EmptyBase.{Laws, same-base}
+
+module _ (join : RunsJoin) (rolls : RollbacksAreSeen) where
+  -- after it nothing stands
+  pub closed-standing : (s : State) (o : Option ℕ) → AreAlone o s.standing → (run s (closing o)).standing ≡ []
+  closed-standing s None alone = alone
+  closed-standing s (Some tx) alone = ap (λ (t : State). t.standing) (rolls s tx alone)
+
+  -- a front of it is nothing, or all
+  pub front-recovers : (log front rest : List Entry) (o : Option ℕ) (T : Tables) → open_in None log ≡ Some o → closing o ≡ front ++ rest → IsRecovered log T → IsRecovered (log ++ front) T
+  front-recovers log [] rest o T order parts stands = subst (λ l. IsRecovered l T) (sym (append-nil log)) stands
+  front-recovers log (e ∷ front) rest None T order parts stands = cc
+  front-recovers log (e ∷ []) rest (Some tx) T order parts stands =
+      let s = run nothing log in
+      let alone : AreOf tx s.standing = alone-run None (Some tx) log [] refl order in
+      let first : Rollback tx ≡ e = cc in
+      let now : run nothing (log ++ e ∷ []) ≡ record s { slots = seen s; standing = [] } =
+      ap (λ f. run nothing (log ++ f ∷ [])) (sym first) ∙ join nothing log (Rollback tx ∷ []) ∙ rolls s tx alone in
+      subst (λ (t : State). Stands t.own (seen t) T) (sym now) stands
+  front-recovers log (e ∷ f ∷ front) rest (Some tx) T order parts stands = cc
+
+  -- an image whose log has a front of it behind has the same tables
+  pub keeps-tables : Laws → ((l m : Layout) (x : Image) → HasLayout l x → HasLayout m x → l ≡ m)
+      → (l : Layout) (f : Files) (o : Option ℕ) (front rest : List Entry) (x y : Image) → f.region ≡ log_region l → f.first ≡ 1 → HasLayout l x → open_in None (log_in l x) ≡ Some o
+      → closing o ≡ front ++ rest → HasLog f x (log_in l x) front y → KeepsTables x y
+  keeps-tables laws one l f o front rest x y region first has order parts log T was =
+      let same : was.layout ≡ l = one was.layout l x was.base.layout has in
+      let base = subst (λ m. HasEmptyBase m x) same was.base in
+      let tables : IsRecovered (log_in l x) T = subst (λ m. IsRecovered (log_in m x) T) same was.tables in
+      let tail : log_in l y ≡ log_in l x ++ front = (λ i. tail_entries (sym region i) (sym first i) y) ∙ log.tail in
+      record {
+        layout = l;
+        base = same-base laws l x y (subst (λ r. SameBut (RegionPlaces r) x y) region log.elsewhere) base;
+        tables = subst (λ t. IsRecovered t T) (sym tail) (front-recovers (log_in l x) front rest o T order parts tables);
+      }

@@ -1,0 +1,139 @@
+use Rattle.std.proofs.Common.{◌≡◌, ◌⊎◌, inl, inr, ◌≤◌, ◌+◌, ◌*◌, ℕ, [], ◌++◌, Option, Some, None, arith, sym, subst, ap, ◌∙◌, refl}
+use Rattle.ids_outside.specs.Images.{Image}
+use Rattle.ids_outside.specs.Stops.{Only}
+use Rattle.chunk_map.specs.declared.layout.Layout.{Layout}
+use Rattle.chunk_map.specs.Formatted.{HasLayout}
+use Rattle.log_files.specs.Log.{body_at}
+use Rattle.log_files.specs.Files.{Files}
+use Rattle.log_buffer.specs.Kept.{KeepsLog}
+use Rattle.ids_model.specs.Recovered.{State, nothing, run}
+use Rattle.fast_recovery.specs.Images.{log_region, log_in}
+use Rattle.fast_recovery.specs.Order.{open_in, closing}
+use Rattle.fast_recovery.specs.LogRead.{AreUpTo, OpenCause}
+use Rattle.fast_recovery.specs.Opening.{files_from}
+use Rattle.fast_recovery.proofs.BlocksRead.{length-held}
+use Rattle.fast_recovery.proofs.Causes.{closing-cause}
+use Rattle.fast_recovery.proofs.Results.{err-goes-up}
+use Rattle.fast_recovery.proofs.Keeping.{same-since, keeps-cleared, keeps-from-now}
+use Rattle.fast_recovery.proofs.EmptyBase.{Laws}
+use Rattle.fast_recovery.proofs.SeenTables.{keeps-tables}
+use Rattle.fast_recovery.proofs.opening.open_log.Goals as goal
+
+pub start_log-requires-clause-held : goal.start_log-requires-clause-held
+start_log-requires-clause-held g c = λ tells b from below.
+    let was = (c.in_ok-layout.ensures.found tells).read.held b from below in
+    (was.0, ap (λ (y : Image). body_at (log_region c.in_ok-layout.layout) b y) c.read_disk.ensures.same ∙ was.1)
+
+pub returns-in_err-files-clause-any_moment : goal.returns-in_err-files-clause-any_moment
+returns-in_err-files-clause-any_moment g c = λ only room m y from left.
+    let d = g.D.Disk in let old = c.args.disk.now in let base = d.image old in let l = c.in_ok-layout.layout in let p = c.in_ok-layout.past in
+    let mid = c.read_disk.new.disk in let new = c.start_log.new.disk in let f = files_from l p.next in
+    let laws : Laws = record { apart = c.apart.ensures.blocks; pages = c.same_pages.ensures.apart; newest = c.same_pages.ensures.newest } in
+    let settled : Only base (d.can_leave mid) = subst (λ (w : Image). Only w (d.can_leave mid)) c.read_disk.ensures.same c.in_ok-layout.ensures.settled in
+    let found = c.in_ok-layout.ensures.found (g.met.D.Disk.left_tells new m y left) in
+    let same = same-since d.size d.now d.image d.can_leave d.left_at g.met.D.Disk.no_later g.met.D.Disk.only_now old mid new base f c.read_disk.ensures.any_moment settled c.start_log.ensures.any_moment
+    only room m y from left in
+    keeps-tables c.runs_join.ensures c.rollbacks_are_seen.ensures laws c.one_of_each.ensures.layout l f p.open_tx [] (closing p.open_tx) base y
+    refl refl found.layout found.read.after.order refl same
+
+pub returns-in_err-close_log-clause-any_moment : goal.returns-in_err-close_log-clause-any_moment
+returns-in_err-close_log-clause-any_moment g c = λ only room m y from left.
+    let d = g.D.Disk in let old = c.args.disk.now in let base = d.image old in let l = c.in_ok-layout.layout in let p = c.in_ok-layout.past in
+    let mid = c.read_disk.new.disk in let start = c.start_log.new.disk in let new = c.close_log.new.disk in
+    let laws : Laws = record { apart = c.apart.ensures.blocks; pages = c.same_pages.ensures.apart; newest = c.same_pages.ensures.newest } in
+    let settled : Only base (d.can_leave mid) = subst (λ (w : Image). Only w (d.can_leave mid)) c.read_disk.ensures.same c.in_ok-layout.ensures.settled in
+    let keeps = keeps-cleared d.size d.now d.image d.can_leave d.left_at g.met.D.Disk.no_later g.met.D.Disk.only_now old mid start base l p.next c.in_ok-files.files c.in_ok-files.buffer (d.now old)
+    c.in_ok-files.ensures.files c.in_ok-files.ensures.buffer c.in_ok-files.ensures.ready c.read_disk.ensures.any_moment settled c.start_log.ensures.any_moment (inl (let same : d.now old ≤ d.now old = omega arith in same, only)) in
+    let found = c.in_ok-layout.ensures.found (g.met.D.Disk.left_tells new m y left) in
+    let was = c.in_err-close_log.ensures.outlives (d.now old) base (log_in l base) keeps room m y from left in
+    keeps-tables c.runs_join.ensures c.rollbacks_are_seen.ensures laws c.one_of_each.ensures.layout l c.in_ok-files.files p.open_tx was.front was.rest base y
+    (ap (λ (t : Files). t.region) c.in_ok-files.ensures.files) (ap (λ (t : Files). t.first) c.in_ok-files.ensures.files) found.layout found.read.after.order was.parts was.log
+
+pub returns-in_err-close_log-clause-fault : goal.returns-in_err-close_log-clause-fault
+returns-in_err-close_log-clause-fault g c =
+    let base = g.D.Disk.image c.args.disk.now in let l = c.in_ok-layout.layout in let p = c.in_ok-layout.past in
+    err-goes-up c.from_residual-in_err-close_log.result _ (λ e. g.D.Disk.tells → OpenCause base e) c.from_residual-in_err-close_log.ensures.1 (λ e is tells.
+    let same : e ≡ c.in_err-close_log.field-0.0 = is in
+    let found = c.in_ok-layout.ensures.found tells in
+    subst (λ k. OpenCause base k) (sym same) (closing-cause base _ c.in_err-close_log.field-0.0 (λ full.
+    let next : p.next ≡ 1 + l.logs * l.log_size =
+    sym (ap (λ (t : Files). t.next) c.in_ok-files.ensures.files) ∙ full.2 ∙ ap (λ (t : Files). t.limit) c.in_ok-files.ensures.files in
+    record {
+      layout = l;
+      has = found.layout;
+      tx = full.0;
+      standing = found.read.after.order ∙ ap (λ (o : Option ℕ). Some o) full.1;
+      taken = length-held (log_region l) base 1 (l.logs * l.log_size) (λ q from below. found.read.held q from (omega (arith, below, next)));
+    }) c.in_err-close_log.ensures.fault))
+
+pub returns-clause-opened : goal.returns-clause-opened
+returns-clause-opened g c = λ tells.
+    let base = g.D.Disk.image c.args.disk.now in let l = c.in_ok-layout.layout in let p = c.in_ok-layout.past in
+    let found = c.in_ok-layout.ensures.found tells in let after = found.read.after in let close = c.in_ok-close_log.ensures in
+    record {
+      layout = subst (λ (k : Layout). HasLayout k base) (sym close.layout) found.layout;
+      newest = found.newest;
+      last = p.open_tx;
+      in_order = ap (λ (k : Layout). open_in None (log_in k base)) close.layout ∙ after.order;
+      replay = close.replay ∙ ap (λ (s : State). run s (closing p.open_tx)) after.replay ∙ sym (c.runs_join.ensures nothing (log_in l base) (closing p.open_tx))
+          ∙ ap (λ (k : Layout). run nothing (log_in k base ++ closing p.open_tx)) (sym close.layout);
+      greatest = subst (λ (n : ℕ). AreUpTo n (log_in c.close_log.new.opened.layout base)) (sym close.last_tx)
+          (subst (λ (k : Layout). AreUpTo p.last_tx (log_in k base)) (sym close.layout) after.greatest);
+    }
+
+pub returns-clause-ready : goal.returns-clause-ready
+returns-clause-ready g c =
+    let d = g.D.Disk in let old = c.args.disk.now in let base = d.image old in let l = c.in_ok-layout.layout in let p = c.in_ok-layout.past in
+    let mid = c.read_disk.new.disk in let start = c.start_log.new.disk in
+    let settled : Only base (d.can_leave mid) = subst (λ (w : Image). Only w (d.can_leave mid)) c.read_disk.ensures.same c.in_ok-layout.ensures.settled in
+    let keeps = keeps-cleared d.size d.now d.image d.can_leave d.left_at g.met.D.Disk.no_later g.met.D.Disk.only_now old mid start base l p.next c.in_ok-files.files c.in_ok-files.buffer (d.now start)
+    c.in_ok-files.ensures.files c.in_ok-files.ensures.buffer c.in_ok-files.ensures.ready c.read_disk.ensures.any_moment settled c.start_log.ensures.any_moment (inr (let same : d.now start ≤ d.now start = omega arith in same)) in
+    (c.in_ok-close_log.ensures.keeps (d.now start) base (log_in l base) keeps).1.ready
+
+pub returns-clause-keeps : goal.returns-clause-keeps
+returns-clause-keeps g c = λ tells since is.
+    let d = g.D.Disk in let old = c.args.disk.now in let base = d.image old in let l = c.in_ok-layout.layout in let p = c.in_ok-layout.past in
+    let mid = c.read_disk.new.disk in let start = c.start_log.new.disk in let new = c.close_log.new.disk in
+    let o = c.close_log.new.opened in
+    let settled : Only base (d.can_leave mid) = subst (λ (w : Image). Only w (d.can_leave mid)) c.read_disk.ensures.same c.in_ok-layout.ensures.settled in
+    let keeps = λ (n : ℕ) (when : ((d.now old ≤ n) × Only base (d.can_leave old)) ⊎ (d.now start ≤ n)).
+    c.in_ok-close_log.ensures.keeps n base (log_in l base)
+    (keeps-cleared d.size d.now d.image d.can_leave d.left_at g.met.D.Disk.no_later g.met.D.Disk.only_now old mid start base l p.next c.in_ok-files.files c.in_ok-files.buffer n
+    c.in_ok-files.ensures.files c.in_ok-files.ensures.buffer c.in_ok-files.ensures.ready c.read_disk.ensures.any_moment settled c.start_log.ensures.any_moment when) in
+    let found = c.in_ok-layout.ensures.found tells in let lay = c.in_ok-close_log.ensures.layout in
+    let order = ap (λ (k : Layout). open_in None (log_in k base)) lay ∙ found.read.after.order in
+    elim is.1 [
+      | inl only ↦
+          let kept = keeps since (inl (is.0, only)) in
+          record {
+            last = p.open_tx;
+            in_order = order;
+            marks = kept.0;
+            keeps = subst (λ (k : Layout). KeepsLog d.size d.now d.image d.can_leave d.left_at since base (log_in k base) (closing p.open_tx) kept.0 o.files o.buffer new) (sym lay) kept.1;
+          }
+      | inr late ↦
+          let kept = keeps (d.now start) (inr (let same : d.now start ≤ d.now start = omega arith in same)) in
+          record {
+            last = p.open_tx;
+            in_order = order;
+            marks = kept.0;
+            keeps = subst (λ (k : Layout). KeepsLog d.size d.now d.image d.can_leave d.left_at since base (log_in k base) (closing p.open_tx) kept.0 o.files o.buffer new) (sym lay)
+                (keeps-from-now d.size d.now d.image d.can_leave d.left_at g.met.D.Disk.no_later g.met.D.Disk.only_now new (d.now start) since base (log_in l base) (closing p.open_tx) kept.0 o.files o.buffer kept.1 late);
+          }
+    ]
+
+pub returns-clause-any_moment : goal.returns-clause-any_moment
+returns-clause-any_moment g c = λ only room m y from left.
+    let d = g.D.Disk in let old = c.args.disk.now in let base = d.image old in let l = c.in_ok-layout.layout in let p = c.in_ok-layout.past in
+    let mid = c.read_disk.new.disk in let start = c.start_log.new.disk in let new = c.close_log.new.disk in
+    let o = c.close_log.new.opened in
+    let laws : Laws = record { apart = c.apart.ensures.blocks; pages = c.same_pages.ensures.apart; newest = c.same_pages.ensures.newest } in
+    let settled : Only base (d.can_leave mid) = subst (λ (w : Image). Only w (d.can_leave mid)) c.read_disk.ensures.same c.in_ok-layout.ensures.settled in
+    let keeps = keeps-cleared d.size d.now d.image d.can_leave d.left_at g.met.D.Disk.no_later g.met.D.Disk.only_now old mid start base l p.next c.in_ok-files.files c.in_ok-files.buffer (d.now old)
+    c.in_ok-files.ensures.files c.in_ok-files.ensures.buffer c.in_ok-files.ensures.ready c.read_disk.ensures.any_moment settled c.start_log.ensures.any_moment (inl (let same : d.now old ≤ d.now old = omega arith in same, only)) in
+    let found = c.in_ok-layout.ensures.found (g.met.D.Disk.left_tells new m y left) in
+    let was = (c.in_ok-close_log.ensures.keeps (d.now old) base (log_in l base) keeps).1.outlives room m y from left in
+    let files = c.in_ok-close_log.ensures.files in
+    keeps-tables c.runs_join.ensures c.rollbacks_are_seen.ensures laws c.one_of_each.ensures.layout l o.files p.open_tx was.front was.rest base y
+    (ap (λ (t : Files). t.region) files ∙ ap (λ (t : Files). t.region) c.in_ok-files.ensures.files)
+    (ap (λ (t : Files). t.first) files ∙ ap (λ (t : Files). t.first) c.in_ok-files.ensures.files) found.layout found.read.after.order was.parts was.log

@@ -1,0 +1,45 @@
+-- What an image holds while the tables are kept by the logical log alone: nothing stands on the pages, and the log begins with block 1.
+use Rattle.std.specs.Prelude.{◌≡◌, ◌<◌, ◌≤◌, ℕ, ◌+◌, ◌*◌, true, List, None}
+use Rattle.ids_outside.specs.Images.{Image, byte}
+use Rattle.gate_blocks.specs.Gates.{block}
+use Rattle.gate_blocks.specs.declared.region.Region.{Region}
+use Rattle.chunk_map.specs.declared.layout.Layout.{Layout}
+use Rattle.chunk_map.specs.declared.checkpoint.CheckpointPage.{CheckpointPage}
+use Rattle.chunk_map.specs.Checkpoints.{IsNewest}
+use Rattle.chunk_map.specs.Formatted.{HasLayout}
+use Rattle.log_records.specs.Entries.{Entry}
+use Rattle.log_buffer.specs.Kept.{tail_entries}
+use Rattle.ids_model.specs.Tables.{Tables}
+use Rattle.ids_model.specs.Logged.{IsRecovered}
+
+-- the two logs of a layout
+abbrev pub phys_region : Layout → Region
+phys_region l = record { chunk = 0; first = 3; count = l.phys }
+
+abbrev pub log_region : Layout → Region
+log_region l = record { chunk = 0; first = 3 + l.phys; count = l.logs * l.log_size }
+
+-- the records of the log
+abbrev pub log_in : Layout → Image → List Entry
+log_in l x = tail_entries (log_region l) 1 x
+
+-- the checkpoint that formatting writes: number 1, quiet, and the log's tail begins with block 1
+abbrev pub first_checkpoint : CheckpointPage
+first_checkpoint = record { number = 1; quiet = true; start = record { block = 1; index = 0 } }
+
+-- the first bytes of a chunk are zero
+abbrev pub IsZero : Image → ℕ → ℕ → Type 0
+IsZero x chunk n = (i : ℕ) → i < n → byte x chunk i ≡ 0
+
+-- the newest checkpoint is the one that formatting writes, no entry of the physical log is open, and no data page has an owner
+pub record HasEmptyBase (l : Layout) (x : Image) : Type 0 where
+  pub layout : HasLayout l x
+  pub newest : IsNewest first_checkpoint x
+  pub physical : (k : ℕ) → k < l.phys → block (phys_region l) k x ≡ None
+  pub unowned : (chunk : ℕ) → 1 ≤ chunk → chunk ≤ l.chunks → IsZero x chunk (2048 * l.data_pages)
+
+-- the tables that are recovered from an image are those that its log stands for
+pub record Recovers (x : Image) (T : Tables) : Type 0 where
+  pub layout : Layout
+  pub base : HasEmptyBase layout x
+  pub tables : IsRecovered (log_in layout x) T

@@ -1,0 +1,99 @@
+-- What opening finds on a disk, and how the log goes on from there.
+use Rattle.std.specs.Prelude.{◌≡◌, ◌<◌, ◌≤◌, ◌⊎◌, ℕ, ◌+◌, ◌*◌, List, [], ◌++◌, Option, Some, None}
+use Rattle.ids_outside.specs.Counts.{last_count}
+use Rattle.ids_outside.specs.Images.{Image}
+use Rattle.ids_outside.specs.Stops.{Only}
+use Rattle.chunk_map.specs.declared.layout.Layout.{Layout}
+use Rattle.chunk_map.specs.Layouts.{IsLayout}
+use Rattle.chunk_map.specs.Checkpoints.{IsNewest}
+use Rattle.chunk_map.specs.Formatted.{HasLayout}
+use Rattle.log_files.specs.Files.{Files}
+use Rattle.log_buffer.specs.Buffers.{empty_at}
+use Rattle.log_buffer.specs.Kept.{Flushed, HasLog, KeepsLog, tail_entries}
+use Rattle.ids_model.specs.Tables.{Tables}
+use Rattle.ids_model.specs.Recovered.{nothing, run}
+use Rattle.fast_recovery.specs.Images.{Recovers, first_checkpoint, log_region, log_in}
+use Rattle.fast_recovery.specs.Order.{open_in, closing}
+use Rattle.fast_recovery.specs.LogRead.{AreUpTo, HasRead}
+use Rattle.fast_recovery.specs.declared.past.Past.{Past}
+use Rattle.fast_recovery.specs.declared.opening.Opened.{Opened}
+use Rattle.fast_recovery.specs.declared.fault.OpenFault.{OpenFault}
+use Rattle.fast_recovery.specs.declared.fault.OpenFault.TheVariants.{Disk, Memory, NotFormatted, Damaged, LogFull}
+
+-- the files of a layout, whose blocks from 1 on to before the next are retained, and no other may be taken
+abbrev pub files_from : Layout → ℕ → Files
+files_from l next = record { region = log_region l; file_blocks = l.log_size; first = 1; next = next; limit = next }
+
+-- the layout of an image, and what the records of its log say
+pub record FoundIn (x : Image) (l : Layout) (p : Past) : Type 0 where
+  pub layout : HasLayout l x
+  pub newest : IsNewest first_checkpoint x
+  pub read : HasRead (log_region l) x p
+
+-- the log is as it was, and so is all else
+abbrev pub SameLog : Files → Image → Image → Type 0
+SameLog f x y = HasLog f x (tail_entries f.region f.first x) [] y
+
+-- what was found in an image: a ROLLBACK of the open transaction is noted
+pub record HasOpened (x : Image) (o : Opened) : Type 0 where
+  pub layout : HasLayout o.layout x
+  pub newest : IsNewest first_checkpoint x
+  pub last : Option ℕ
+  pub in_order : open_in None (log_in o.layout x) ≡ Some last
+  pub replay : o.replay ≡ run nothing (log_in o.layout x ++ closing last)
+  pub greatest : AreUpTo o.last_tx (log_in o.layout x)
+
+-- the files of the layout from block 1 on, each place of which is retained or may be taken; a buffer without records; and nothing stands
+pub record IsOpened (o : Opened) : Type 0 where
+  pub layout : IsLayout o.layout
+  pub region : o.files.region ≡ log_region o.layout
+  pub file_blocks : o.files.file_blocks ≡ o.layout.log_size
+  pub first : o.files.first ≡ 1
+  pub limit : o.files.limit ≡ 1 + o.layout.logs * o.layout.log_size
+  pub buffer : o.buffer ≡ empty_at o.files.next
+  pub quiet : o.replay.standing ≡ []
+
+-- the log of an image is kept, with a ROLLBACK of the open transaction behind it
+pub record KeepsOpened {D : Type 0} (size : D → ℕ → ℕ) (now : D → ℕ) (image : D → Image) (can_leave : D → Image → Type 0) (left_at : D → ℕ → Image → Type 0)
+    (since : ℕ) (x : Image) (o : Opened) (disk : D) : Type 0 where
+  pub last : Option ℕ
+  pub in_order : open_in None (log_in o.layout x) ≡ Some last
+  pub marks : List Flushed
+  pub keeps : KeepsLog size now image can_leave left_at since x (log_in o.layout x) (closing last) marks o.files o.buffer disk
+
+-- a moment since the call began, where a stop could then leave nothing but the image that was read; or one since it ended
+abbrev pub IsSince : {D : Type 0} → (D → ℕ) → (D → Image) → (D → Image → Type 0) → D → D → ℕ → Type 0
+IsSince {D} now image can_leave old new since = (now old ≤ since) × (Only (image old) (can_leave old) ⊎ (now new ≤ since))
+
+-- whatever tables are recovered from the first image are recovered from the second
+abbrev pub KeepsTables : Image → Image → Type 0
+KeepsTables x y = (T : Tables) → Recovers x T → Recovers y T
+
+-- where a stop could leave nothing but the image when the call began, each stop within it leaves the same tables
+abbrev pub TablesStay : {D : Type 0} → (D → ℕ) → (D → Image) → (D → Image → Type 0) → (D → ℕ → Image → Type 0) → D → D → Type 0
+TablesStay {D} now image can_leave left_at old new =
+    Only (image old) (can_leave old) → now new < last_count → (m : ℕ) (c : Image) → now old ≤ m → left_at new m c → KeepsTables (image old) c
+
+-- the disk failed, or memory was wanting
+abbrev pub IsWant : OpenFault → Type 0
+IsWant Disk = Unit {0}
+IsWant Memory = Unit {0}
+IsWant NotFormatted = ⊥
+IsWant (Damaged place) = ⊥
+IsWant LogFull = ⊥
+
+-- or the files had no room
+abbrev pub ClosingFault : Type 0 → OpenFault → Type 0
+ClosingFault full Disk = Unit {0}
+ClosingFault full Memory = Unit {0}
+ClosingFault full NotFormatted = ⊥
+ClosingFault full (Damaged place) = ⊥
+ClosingFault full LogFull = full
+
+-- the disk is not one that is opened
+abbrev pub IsRefusal : OpenFault → Type 0
+IsRefusal Disk = ⊥
+IsRefusal Memory = ⊥
+IsRefusal NotFormatted = Unit {0}
+IsRefusal (Damaged place) = Unit {0}
+IsRefusal LogFull = ⊥

@@ -1,0 +1,214 @@
+//! Opening over a disk in memory, through the bound that callers have.
+ghost use Rattle.std.specs.Prelude.{◌≡◌, ◌≤◌, length};
+ghost use Rattle.log_files.specs.Files.{AreNumbered};
+
+use crate::fault::OpenFault;
+use crate::opening::{files_of, open_log};
+use chunk_map::{CheckpointPage, Layout, MapFault, has_pages, newest, write_identity, write_next};
+use ids_base::position::LogPos;
+use ids_base::row_bytes::RowBytes;
+use ids_base::row_id::RowId;
+use ids_base::status::Place;
+use ids_outside::{Disk, Leave, MemDisk, is_image};
+use log_records::block_body::{BlockBody, put};
+use log_records::record::Record;
+use std::alloc::Global;
+use std::process::Abort;
+use std::test::Fail;
+
+const SMALL: Layout = Layout {
+    phys: 16,
+    logs: 3,
+    log_size: 8,
+    chunks: 1,
+    data_pages: 2,
+    root: 43,
+};
+
+const FIRST: &[u8] = b"\x00\x00\x00\x01one ";
+
+const SECOND: &[u8] = b"\x00\x00\x00\x02two ";
+
+// Writes the identity, and the first checkpoint page.
+fn format<D: Disk>(disk: &mut D) -> Result<(), MapFault> {
+    if !SMALL.is_in_range() || !has_pages(disk, &SMALL) {
+        return Err(MapFault::Disk);
+    }
+    disk.sync()?;
+    write_identity(disk, &SMALL)?;
+    let Err(MapFault::NotFormatted) = newest(disk, &SMALL) else {
+        return Err(MapFault::Disk);
+    };
+    let page = CheckpointPage {
+        number: 1,
+        quiet: true,
+        start: LogPos { block: 1, index: 0 },
+    };
+    write_next(disk, &SMALL, &page)?;
+    Ok(())
+}
+
+// Appends blocks to an empty log.
+fn append<D: Disk>(disk: &mut D, bodies: &[BlockBody]) -> Result<(), OpenFault>
+    requires numbered { AreNumbered 1 bodies.now }
+    requires few { length bodies.now ≤ 2 }
+{
+    if !SMALL.is_in_range() || !has_pages(disk, &SMALL) {
+        return Err(OpenFault::Disk);
+    }
+    disk.sync()?;
+    let mut files = files_of(&SMALL, 1);
+    if files.read_from(disk, 1)?.is_some() {
+        return Err(OpenFault::Disk);
+    }
+    files.clear_rest(disk)?;
+    files.append_blocks(disk, bodies)?;
+    Ok(())
+}
+
+fn insert(alloc: Global, tx: u64, slot: u32, bytes: &[u8]) -> Result<Record, Fail> {
+    if bytes.is_empty() || bytes.len() > 800 {
+        return Err("no row".into());
+    }
+    Ok(Record::HInsert {
+        tx,
+        table: 100,
+        row: RowId::from_number(slot),
+        after: RowBytes::new(alloc, bytes)?,
+    })
+}
+
+// A body of these records.
+fn body(rt: &impl Abort, number: u64, records: &[Record]) -> BlockBody
+    ensures number { result.number ≡ number }
+    ensures some { 1 ≤ length result.entries }
+{
+    let mut body = BlockBody::new(number);
+    for entry in records {
+        let is_put = put(entry, &mut body);
+        assert!(rt; is_put);
+    }
+    assert!(rt; body.number() == number);
+    assert!(rt; body.count() >= 1);
+    body
+}
+
+// What is found: the rows in two slots, the greatest transaction, and the block that comes next.
+#[derive(Clone, Copy, Debug, Drop, PartialEq, Eq)]
+struct Summary {
+    has_first: bool,
+    has_second: bool,
+    has_standing: bool,
+    last_tx: u64,
+    next: u64,
+}
+
+fn open<D: Disk>(alloc: Global, disk: &mut D) -> Result<Summary, OpenFault> {
+    let opened = open_log(alloc, disk)?;
+    Ok(Summary {
+        has_first: opened.replay.row_at(257) == Some(FIRST),
+        has_second: opened.replay.row_at(258).is_some(),
+        has_standing: opened.replay.has_standing(),
+        last_tx: opened.last_tx,
+        next: opened.files.next(),
+    })
+}
+
+fn small_disk(rt: &impl Abort, alloc: Global) -> Result<MemDisk, Fail> {
+    let mut disk = MemDisk::new(alloc, &[43, 2], Vec::new(alloc))?;
+    assert_eq!(rt; format(&mut disk), Ok(()));
+    Ok(disk)
+}
+
+// Transaction 1 is committed in block 1, and transaction 2 is open at the end of block 2.
+fn disk_of_two_blocks(rt: &impl Abort, alloc: Global) -> Result<MemDisk, Fail> {
+    let mut disk = small_disk(rt, alloc)?;
+    let first = [
+        Record::Begin { tx: 1, session: 1 },
+        insert(alloc, 1, 257, FIRST)?,
+        Record::Commit { tx: 1 },
+        Record::Begin { tx: 2, session: 1 },
+    ];
+    let second = [insert(alloc, 2, 258, SECOND)?];
+    let bodies = [body(rt, 1, &first), body(rt, 2, &second)];
+    assert_eq!(rt; append(&mut disk, &bodies), Ok(()));
+    Ok(disk)
+}
+
+#[test]
+fn an_empty_log_has_nothing(rt: HostRuntime) -> Result<(), Fail> {
+    let alloc = rt.alloc();
+    let mut disk = small_disk(&rt, alloc)?;
+    let nothing = Summary {
+        has_first: false,
+        has_second: false,
+        has_standing: false,
+        last_tx: 0,
+        next: 1,
+    };
+    assert_eq!(rt; open(alloc, &mut disk), Ok(nothing));
+    assert_eq!(rt; open(alloc, &mut disk), Ok(nothing));
+    Ok(())
+}
+
+// The first transaction stands, and the second was rolled back.
+const ROLLED_BACK: Summary = Summary {
+    has_first: true,
+    has_second: false,
+    has_standing: false,
+    last_tx: 2,
+    next: 4,
+};
+
+#[test]
+fn an_open_transaction_is_rolled_back(rt: HostRuntime) -> Result<(), Fail> {
+    let alloc = rt.alloc();
+    let mut disk = disk_of_two_blocks(&rt, alloc)?;
+    assert_eq!(rt; open(alloc, &mut disk), Ok(ROLLED_BACK));
+    assert_eq!(rt; open(alloc, &mut disk), Ok(ROLLED_BACK));
+    Ok(())
+}
+
+#[test]
+fn each_stop_within_opening_leaves_the_rows(rt: HostRuntime) -> Result<(), Fail> {
+    let alloc = rt.alloc();
+    let mut disk = disk_of_two_blocks(&rt, alloc)?;
+    let begun = disk.moment();
+    assert_eq!(rt; open(alloc, &mut disk), Ok(ROLLED_BACK));
+    assert!(rt; begun < disk.moment());
+    for moment in begun..=disk.moment() {
+        for leave in [
+            Leave::Old,
+            Leave::New,
+            Leave::Half,
+            Leave::Torn(0xA5),
+            Leave::Torn(0),
+        ] {
+            let image = disk.left_at(alloc, moment, leave)?;
+            assert!(rt; is_image(&image));
+            let mut left = MemDisk::from_image(alloc, image, Vec::new(alloc));
+            assert_eq!(rt;
+                open(alloc, &mut left),
+                Ok(ROLLED_BACK),
+                "at {moment} {leave:?}"
+            );
+        }
+    }
+    Ok(())
+}
+
+#[test]
+fn other_disks_are_refused(rt: HostRuntime) -> Result<(), Fail> {
+    let alloc = rt.alloc();
+    let mut zeros = MemDisk::new(alloc, &[43, 2], Vec::new(alloc))?;
+    assert_eq!(rt; open(alloc, &mut zeros), Err(OpenFault::NotFormatted));
+    let mut disk = small_disk(&rt, alloc)?;
+    let records = [
+        Record::Begin { tx: 1, session: 1 },
+        Record::Commit { tx: 2 },
+    ];
+    assert_eq!(rt; append(&mut disk, &[body(&rt, 1, &records)]), Ok(()));
+    let place = Place::Record(LogPos { block: 1, index: 1 });
+    assert_eq!(rt; open(alloc, &mut disk), Err(OpenFault::Damaged(place)));
+    Ok(())
+}

@@ -1,0 +1,121 @@
+//! What the records of a log say.
+ghost use Rattle.std.specs.Prelude.{◌≡◌, ◌<◌, ◌+◌, ◌^◌, [], ◌∷◌, IfOk, IfErr, OnOk, true, false, None};
+ghost use Rattle.log_records.specs.Says.{entry_of};
+ghost use Rattle.ids_model.specs.Recovered.{nothing};
+ghost use Rattle.fast_recovery.specs.Order.{open_by, starts, stays, ends};
+ghost use Rattle.fast_recovery.specs.LogRead.{GoesOn, RecordsFault};
+
+use crate::fault::OpenFault;
+use crate::replay::Replay;
+use ids_base::memory::Memory;
+use ids_base::numbers::TxNo;
+use ids_base::position::LogPos;
+use ids_base::status::Place;
+use ids_model::recovery_laws::runs_join;
+use log_records::block_body::BlockBody;
+use log_records::record::Record;
+use std::alloc::Global;
+
+/// What the records so far say. Where a call answers an error, it is of no further use.
+#[derive(Drop)]
+pub(crate) struct Past {
+    /// What they make of pages and rows.
+    pub(crate) replay: Replay,
+    /// The transaction that is open after them.
+    pub(crate) open_tx: Option<TxNo>,
+    /// The greatest number of a transaction among them, or 0.
+    pub(crate) last_tx: TxNo,
+    /// The number of the block that comes next.
+    pub(crate) next: u64,
+}
+
+impl Past {
+    /// Before any record, the next block is block 1. Takes no memory.
+    pub(crate) fn new(alloc: Global) -> Past
+        ensures replay { result.replay ≡ nothing }
+        ensures none { result.open_tx ≡ None }
+        ensures next { result.next ≡ 1 }
+    {
+        Past {
+            replay: Replay::new(alloc),
+            open_tx: None,
+            last_tx: 0,
+            next: 1,
+        }
+    }
+
+    /// Goes on by the records of the next block.
+    pub(crate) fn note_body(&mut self, alloc: Global, body: &BlockBody) -> Result<(), OpenFault>
+        requires { self.old.next < 2 ^ 63 }
+        ensures goes_on { OnOk result (GoesOn self.old body.now.entries self.new) }
+        ensures next { OnOk result (self.new.next ≡ self.old.next + 1) }
+        ensures fault { IfErr result (λ e. RecordsFault self.old.open_tx body.now.entries e) }
+    {
+        runs_join();
+        let records = body.records(alloc)?;
+        for index in 0..body.count() {
+            if !self.note(&records.as_slice()[index as usize])? {
+                let block = self.next;
+                return Err(OpenFault::Damaged(Place::Record(LogPos { block, index })));
+            }
+        }
+        self.next += 1;
+        Ok(())
+    }
+
+    // Goes on by a record; `false` exactly where it is out of order.
+    fn note(&mut self, entry: &Record) -> Result<bool, Memory>
+        ensures noted { IfOk result (λ is_noted. is_noted ≡ true → GoesOn self.old (entry_of entry.now ∷ []) self.new) }
+        ensures refused { IfOk result (λ is_noted. is_noted ≡ false → open_by self.old.open_tx (entry_of entry.now) ≡ None) }
+        ensures next { self.new.next ≡ self.old.next }
+    {
+        let Some(open_tx) = open_after(self.open_tx, entry) else {
+            return Ok(false);
+        };
+        self.replay.note(entry)?;
+        self.open_tx = open_tx;
+        self.last_tx = self.last_tx.max(entry.tx());
+        Ok(true)
+    }
+}
+
+// Which transaction is open after a record, where this one was before; `None` where the record is out of order.
+fn open_after(before: Option<TxNo>, entry: &Record) -> Option<Option<TxNo>>
+    ensures { result ≡ open_by before (entry_of entry.now) }
+{
+    match entry {
+        Record::Begin { tx, .. } => started(before, *tx),
+        Record::Commit { tx } | Record::Rollback { tx } => ended(before, *tx),
+        Record::HInsert { tx, .. } | Record::HDelete { tx, .. } | Record::HUpdate { tx, .. } => {
+            stayed(before, *tx)
+        }
+        Record::Ckpoint { .. } => Some(before),
+    }
+}
+
+fn started(before: Option<TxNo>, tx: TxNo) -> Option<Option<TxNo>>
+    ensures { result ≡ starts before tx }
+{
+    match before {
+        None => Some(Some(tx)),
+        Some(_) => None,
+    }
+}
+
+fn stayed(before: Option<TxNo>, tx: TxNo) -> Option<Option<TxNo>>
+    ensures { result ≡ stays before tx }
+{
+    let open_tx = before?;
+    if open_tx == tx {
+        Some(Some(open_tx))
+    } else {
+        None
+    }
+}
+
+fn ended(before: Option<TxNo>, tx: TxNo) -> Option<Option<TxNo>>
+    ensures { result ≡ ends before tx }
+{
+    let open_tx = before?;
+    if open_tx == tx { Some(None) } else { None }
+}
