@@ -1,1 +1,15 @@
 pub mod Zeros
+pub mod Places
+pub mod RowSizes
+pub mod Inserted
+pub mod Counting
+pub mod Keeping
+pub mod Bases
+pub mod Fronts
+pub mod Surviving
+pub mod Growing
+pub mod Putting
+pub mod StoreSteps
+pub mod Opened
+pub mod FirstsCovered
+pub mod JournalsGrow

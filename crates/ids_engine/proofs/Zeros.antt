@@ -1,8 +1,8 @@
 -- Chunks of zeros.
-use Rattle.std.proofs.Common.{◌≡◌, ◌⊎◌, inl, inr, ℕ, zero, suc, ◌+◌, ◌-◌, ◌*◌, ◌<◌, ◌≤◌, List, [], ◌∷◌, length, get_or, replicate, refl, sym, ◌∙◌, ap, subst, arith}
+use Rattle.std.proofs.Common.{◌≡◌, ◌⊎◌, inl, inr, ℕ, zero, suc, ◌+◌, ◌-◌, ◌*◌, ◌<◌, ◌≤◌, List, length, get_or, replicate, sym, ◌∙◌, ap, arith}
 use Rattle.std.specs.Prelude.{slice_index}
 use Rattle.std.proofs.lemmas.List.{get_or-replicate, length-replicate}
-use Rattle.ids_outside.specs.Images.{Image, byte, bytes_of, chunk_of, SameBut, Range, Torn, Written, Grown}
+use Rattle.ids_outside.specs.Images.{Image, byte, bytes_of, Torn, Written, Grown}
 use Rattle.gate_blocks.specs.Gates.{place, gate}
 use Rattle.gate_blocks.specs.declared.region.Region.{Region}
 use Rattle.ids_engine.specs.Blank.{IsZero, SameChunk}

@@ -1,24 +1,16 @@
 -- A disk that was just formatted.
-use Rattle.std.specs.Prelude.{◌≡◌, ◌<◌, ◌≤◌, ℕ, ◌+◌, ◌*◌, true, None}
-use Rattle.ids_outside.specs.Images.{Image, byte, SameBut}
+use Rattle.std.specs.Prelude.{◌≡◌, ◌<◌, ◌≤◌, ℕ, ◌+◌, ◌*◌, None}
+use Rattle.ids_outside.specs.Images.{Image, byte}
 use Rattle.gate_blocks.specs.Gates.{block}
 use Rattle.gate_blocks.specs.declared.region.Region.{Region}
 use Rattle.chunk_map.specs.declared.layout.Layout.{Layout}
-use Rattle.chunk_map.specs.declared.checkpoint.CheckpointPage.{CheckpointPage}
 use Rattle.chunk_map.specs.Checkpoints.{IsNewest}
 use Rattle.chunk_map.specs.Formatted.{HasLayout}
-
--- the first bytes of a chunk are zero
-abbrev pub IsZero : Image → ℕ → ℕ → Type 0
-IsZero x chunk n = (i : ℕ) → i < n → byte x chunk i ≡ 0
+pub use Rattle.fast_recovery.specs.Images.{IsZero, first_checkpoint}
 
 -- a chunk has the same bytes
 abbrev pub SameChunk : ℕ → Image → Image → Type 0
 SameChunk chunk x y = (i : ℕ) → byte y chunk i ≡ byte x chunk i
-
--- the checkpoint that formatting writes: number 1, quiet, and the log's tail begins with block 1
-abbrev pub first_checkpoint : CheckpointPage
-first_checkpoint = record { number = 1; quiet = true; start = record { block = 1; index = 0 } }
 
 -- the two logs of a layout
 abbrev pub both_logs : Layout → Region

@@ -1,10 +1,17 @@
-//! The engine of the server. So far it formats disks: `init_disk`.
+//! The engine of the server. It formats disks, `init_disk`, and keeps the tables of one session on a disk, `Store`.
 #![tactic(auto)]
 
 mod blank;
 mod init;
+pub mod journal_laws;
+pub mod laws;
+mod placing;
+mod store;
+pub mod store_laws;
+mod store_opening;
 
 pub use init::{InitPlan, init_disk};
+pub use store::{Changed, Store, StoreFault};
 
 #[cfg(test)]
 mod tests;
