@@ -1,5 +1,5 @@
 -- The lists, blocks and limits stand for the threads, where places are added.
-use Rattle.std.proofs.Common.{◌≡◌, ◌∙◌, ℕ, zero, suc, ◌+◌, ◌≤◌, ◌==◌, true, List, [], ◌∷◌, ◌++◌, length, map, get_or, refl, ap, sym, subst, arith, inl, inr, length-append, Option, Some, None, IsSome}
+use Rattle.std.proofs.Common.{◌≡◌, ◌∙◌, ℕ, zero, suc, ◌+◌, ◌<◌, ◌≤◌, ◌==◌, true, List, [], ◌∷◌, ◌++◌, length, map, get_or, refl, ap, sym, subst, arith, inl, inr, length-append, Option, Some, None}
 use Rattle.std.specs.List.{filter}
 use Rattle.std.proofs.lemmas.List.{get_or_past}
 use Rattle.std.proofs.lemmas.Bool.{cases_eq}
@@ -9,7 +9,8 @@ use Rattle.thread_queues.specs.declared.event.Due.{Due}
 use Rattle.thread_queues.specs.declared.event.Waiter.{Waiter}
 use Rattle.thread_queues.specs.Firsts.{due_at}
 use Rattle.thread_queues.specs.Slotted.{limit_in, nothing}
-use Rattle.thread_queues.specs.Laid.{no_waiter, block_at, number_at, bucket_of, slotted, IsLaid}
+use Rattle.thread_queues.specs.Laid.{no_waiter, block_at, number_at, bucket_of, slotted, IsBucketed, IsLaid}
+use Rattle.thread_queues.proofs.Bucketing.{still-bucketed}
 use Rattle.thread_queues.proofs.Moving.{same-at}
 use Rattle.thread_queues.proofs.Putting.{IsPushed}
 
@@ -46,7 +47,7 @@ default-more (x ∷ xs) d zero = refl
 default-more (x ∷ xs) d (suc k) = default-more xs d k
 
 module _ (al qs bu : Lists) (bs : List Waiter) (li : List (Option Due)) (id_of : ℕ → Option ℕ) (laid : IsLaid al qs bu bs li id_of)
-    (al' qs' bu' : Lists) (bs' : List Waiter) (li' : List (Option Due)) (live : HasSameLive al al') (queues : IsMore qs qs') (buckets : IsMore bu bu')
+    (al' qs' bu' : Lists) (bs' : List Waiter) (li' : List (Option Due)) (live : HasSameLive al al') (queues : IsMore qs qs')
     (blocks : (x : ℕ) → block_at bs' x ≡ block_at bs x) (limits : (x : ℕ) → due_at li' x ≡ due_at li x) where
   pub grown-shown : slotted al' qs' bs' ≡ slotted al qs bs
   grown-shown =
@@ -54,14 +55,12 @@ module _ (al qs bu : Lists) (bs : List Waiter) (li : List (Option Due)) (id_of :
       ∙ ap (λ (ids : List ℕ). record { live = map (number_at bs) ids; queues = map (λ ids. map (block_at bs) ids) qs'.lists }) live.live
       ∙ ap (λ (ls : List (List ℕ)). record { live = map (number_at bs) (list_at al 0); queues = map (λ ids. map (block_at bs) ids) ls }) (same-at qs'.lists qs.lists queues.lists queues.same)
 
-  pub grown-laid : id_count al' ≤ id_count qs' → id_count al' ≤ id_count bu' → id_count al' ≤ length bs' → id_count al' ≤ length li' → IsLaid al' qs' bu' bs' li' id_of
-  grown-laid rq rb rs rl = record {
+  pub grown-laid : id_count al' ≤ id_count qs' → id_count al' ≤ id_count bu' → id_count al' ≤ length bs' → id_count al' ≤ length li' → IsBucketed qs' bu' bs' → IsLaid al' qs' bu' bs' li' id_of
+  grown-laid rq rb rs rl bucketed = record {
     alive_sound = live.sound;
     queues_sound = queues.sound;
-    buckets_sound = buckets.sound;
     alive_count = live.lists ∙ laid.alive_count;
     queue_count = queues.lists ∙ laid.queue_count;
-    bucket_count = buckets.lists ∙ laid.bucket_count;
     queues_room = rq;
     buckets_room = rb;
     blocks_room = rs;
@@ -71,12 +70,13 @@ module _ (al qs bu : Lists) (bs : List Waiter) (li : List (Option Due)) (id_of :
       λ e. let r = (laid.found t x).0 e in (live.stays x r.0, ap (λ (w : Waiter). w.thread) (blocks x) ∙ r.1),
       λ r. (laid.found t x).1 (live.was x r.0, ap (λ (w : Waiter). w.thread) (sym (blocks x)) ∙ r.1),
     );
-    unbucketed = λ x e. buckets.homes x ∙ laid.unbucketed x (sym (queues.homes x) ∙ e);
-    in_bucket = λ x q e. subst (λ (o : Option ℕ). IsSome o) (sym (buckets.homes x)) (laid.in_bucket x q (sym (queues.homes x) ∙ e));
-    bucketed = λ b lt. buckets.same b ∙ laid.bucketed b lt ∙ ap (filter (λ x. bucket_of (block_at bs x).event == b)) (sym (queues.same 4))
-        ∙ ap (λ (f : ℕ → Waiter). filter (λ x. bucket_of (f x).event == b) (list_at qs' 4)) (sym (fun_ext blocks));
+    bucketed = bucketed;
     limited = λ x. limits x ∙ laid.limited x ∙ ap (λ (o : Option ℕ). limit_in o (block_at bs x)) (sym (queues.homes x)) ∙ ap (limit_in (home_at qs' x)) (sym (blocks x));
   }
+
+-- the buckets are right of the queues and blocks with one more
+pub queues-bucketed : (qs bu qs' : Lists) (bs bs' : List Waiter) → IsSound qs → IsBucketed qs bu bs → IsMore qs qs' → ((x : ℕ) → block_at bs' x ≡ block_at bs x) → IsBucketed qs' bu bs'
+queues-bucketed qs bu qs' bs bs' sound bucketed more blocks = still-bucketed qs bu bs sound bucketed qs' bs' (more.same 4) (λ x h. blocks x)
 
 pub blocks-more : (bs bs' : List Waiter) → bs' ≡ bs ++ no_waiter ∷ [] → ((x : ℕ) → block_at bs' x ≡ block_at bs x) × (length bs' ≡ length bs + 1)
 blocks-more bs bs' e = (λ x. ap (λ (ws : List Waiter). block_at ws x) e ∙ default-more bs no_waiter x, ap length e ∙ length-append bs (no_waiter ∷ []))
@@ -130,3 +130,12 @@ none-shown al qs bs live count empty =
     none (suc (suc (suc (suc zero)))) = refl
     none (suc (suc (suc (suc (suc zero))))) = refl
     none (suc (suc (suc (suc (suc (suc k)))))) = refl
+
+-- the buckets are right where nothing is in them and no thread waits
+pub none-bucketed : (qs bu : Lists) (bs : List Waiter) → list_at qs 4 ≡ [] → 7 < list_count bu → id_count bu ≡ 0 → ((k : ℕ) → list_at bu k ≡ []) → IsSound bu → IsBucketed qs bu bs
+none-bucketed qs bu bs idle wide places empty sound = record {
+  sound = sound;
+  wide = wide;
+  many = omega (arith, wide, places);
+  waiting = λ b. empty b ∙ ap (filter (λ x. bucket_of (list_count bu) (block_at bs x).event == b)) (sym idle);
+}

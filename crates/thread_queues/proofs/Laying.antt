@@ -1,13 +1,14 @@
 -- Where the lists and blocks have a thread, and what they and the limits say of it.
-use Rattle.std.proofs.Common.{◌≡◌, ◌∙◌, ℕ, ◌<◌, List, [], ◌∷◌, length, map, refl, ap, sym, subst, arith, Option, Some, None, IsSome}
+use Rattle.std.proofs.Common.{◌≡◌, ◌∙◌, ℕ, ◌<◌, true, List, [], ◌∷◌, length, map, refl, ap, sym, subst, arith, Option, Some, None}
 use Rattle.std.specs.List.{slice_get}
-use Rattle.link_lists.specs.Lists.{Lists, list_at, home_at, id_count}
+use Rattle.link_lists.specs.Lists.{Lists, list_at, home_at, id_count, has}
 use Rattle.thread_queues.specs.declared.event.Due.{Due}
 use Rattle.thread_queues.specs.declared.event.Waiter.{Waiter}
 use Rattle.thread_queues.specs.Firsts.{due_at, IsFirst}
 use Rattle.thread_queues.specs.Placed.{times}
 use Rattle.thread_queues.specs.Slotted.{limit_in, queue_at, threads_of, IsApart, IsFirstOf}
 use Rattle.thread_queues.specs.Laid.{block_at, number_at, slotted, IsLaid}
+use Rattle.thread_queues.proofs.Bucketing.{unbucketed, bucket-waits}
 use Rattle.thread_queues.proofs.Ids.{times-has, has-times, get-has, has-get}
 use Rattle.thread_queues.proofs.Moving.{map-lists}
 
@@ -55,6 +56,13 @@ module _ (al qs bu : Lists) (bs : List Waiter) (li : List (Option Due)) (id_of :
   pub live-places : (x : ℕ) → home_at al x ≡ Some 0 → (x < id_count qs) × (x < id_count bu) × (x < length bs) × (x < length li)
   live-places x home = let t = (laid.alive_sound.there 0 x home).1 in (omega (arith, t, laid.queues_room), omega (arith, t, laid.buckets_room), omega (arith, t, laid.blocks_room), omega (arith, t, laid.limits_room))
 
+  -- where the place of a thread in a queue is found, and that of one in a bucket
+  pub queue-places : (q x : ℕ) → has x (list_at qs q) ≡ true → (x < id_count bu) × (x < length bs)
+  queue-places q x h = let p = live-places x (laid.lives x q ((laid.queues_sound.home q x).1 h)) in (p.1, p.2)
+
+  pub bucket-places : (b x : ℕ) → has x (list_at bu b) ≡ true → x < length bs
+  bucket-places b x h = (live-places x (laid.lives x 4 (bucket-waits qs bu bs laid.queues_sound laid.bucketed b x h))).2
+
   -- a thread that lives and stands in no queue has a place, which no list but that of the live ones has
   pub record IsFreeAt (t x : ℕ) : Type 0 where
     pub live : home_at al x ≡ Some 0
@@ -71,13 +79,13 @@ module _ (al qs bu : Lists) (bs : List Waiter) (li : List (Option Due)) (id_of :
       let f = (laid.found t x).0 e in
       let p = live-places x f.0 in
       let free = apart-free t x apart f.1 in
-      record { live = f.0; number = f.1; free = free; unbucketed = laid.unbucketed x free; in_queues = p.0; in_buckets = p.1; in_blocks = p.2; in_limits = p.3 }
+      record { live = f.0; number = f.1; free = free; unbucketed = unbucketed qs bu bs laid.queues_sound laid.bucketed x free; in_queues = p.0; in_buckets = p.1; in_blocks = p.2; in_limits = p.3 }
 
-  -- a thread that stands in a queue has a place there, and in a bucket
+  -- a thread that stands in a queue has a place there
   pub record IsPlacedAt (q t x : ℕ) : Type 0 where
     pub number : number_at bs x ≡ t
     pub here : home_at qs x ≡ Some q
-    pub bucketed : IsSome (home_at bu x)
+    pub in_buckets : x < id_count bu
     pub in_blocks : x < length bs
     pub in_limits : x < length li
 
@@ -87,7 +95,7 @@ module _ (al qs bu : Lists) (bs : List Waiter) (li : List (Option Due)) (id_of :
       let same : s.0 ≡ x = one-id s.0 x (sym s.1 ∙ e) in
       let here : home_at qs x ≡ Some q = ap (home_at qs) (sym same) ∙ s.2 in
       let p = live-places x (laid.lives x q here) in
-      record { number = ap (number_at bs) (sym same) ∙ s.3; here = here; bucketed = laid.in_bucket x q here; in_blocks = p.2; in_limits = p.3 }
+      record { number = ap (number_at bs) (sym same) ∙ s.3; here = here; in_buckets = p.1; in_blocks = p.2; in_limits = p.3 }
     where
       one-id : (m n : ℕ) → Some m ≡ Some n → m ≡ n
       one-id m n e = cc

@@ -1,16 +1,16 @@
 -- The lists, blocks and limits stand for the threads, as a thread leaves a queue.
-use Rattle.std.proofs.Common.{◌≡◌, ◌∙◌, ℕ, ◌<◌, ◌==◌, true, false, List, [], length, map, get_or, refl, ap, sym, subst, arith, inl, inr, Option, Some, None, IsSome}
+use Rattle.std.proofs.Common.{◌≡◌, ◌∙◌, ℕ, ◌<◌, ◌==◌, true, false, List, [], length, map, get_or, refl, ap, sym, subst, arith, inl, inr, Option, Some, None}
 use Rattle.std.proofs.Math.ListN.{set}
 use Rattle.std.specs.List.{filter, find}
 use Rattle.std.proofs.lemmas.List.{get_or-set_same, get_or-set_other, length-set, length-map}
 use Rattle.std.proofs.lemmas.Bool.{cases_eq, eq-eqb, ne_eqb}
-use Rattle.link_lists.specs.Lists.{Lists, list_at, home_at, ListBecomes, HomeBecomes, SameCounts, IsSound, has, without}
+use Rattle.link_lists.specs.Lists.{Lists, list_at, home_at, list_count, ListBecomes, HomeBecomes, SameCounts, IsSound, has, without}
 use Rattle.thread_queues.specs.declared.event.Due.{Due}
 use Rattle.thread_queues.specs.declared.event.Waiter.{Waiter}
 use Rattle.thread_queues.specs.Firsts.{due_at}
 use Rattle.thread_queues.specs.Placed.{without_first}
 use Rattle.thread_queues.specs.Slotted.{limit_in, queue_at, taken_from}
-use Rattle.thread_queues.specs.Laid.{block_at, number_at, bucket_of, slotted, IsLaid}
+use Rattle.thread_queues.specs.Laid.{block_at, number_at, bucket_of, slotted, IsBucketed, IsLaid}
 use Rattle.thread_queues.proofs.Ids.{filter-without, without-first-map, find-map}
 use Rattle.thread_queues.proofs.Moving.{taken-lists, map-lists, same-at}
 
@@ -21,8 +21,14 @@ pub record IsUnlinked (old new : Lists) (l x : ℕ) : Type 0 where
   pub counts : SameCounts old new
   pub sound : IsSound new
 
+-- an id was taken out of the bucket that it was in, if it was in one
+pub record IsTakenFromBucket (old new : Lists) (x : ℕ) : Type 0 where
+  pub lists : (k : ℕ) → list_at new k ≡ without x (list_at old k)
+  pub counts : SameCounts old new
+  pub sound : IsSound new
+
 module _ (al qs bu : Lists) (bs : List Waiter) (li : List (Option Due)) (id_of : ℕ → Option ℕ) (laid : IsLaid al qs bu bs li id_of)
-    (qs' bu' : Lists) (q b x : ℕ) (here : home_at qs x ≡ Some q) (there : home_at bu x ≡ Some b) (out : IsUnlinked qs qs' q x) (gone : IsUnlinked bu bu' b x) where
+    (qs' bu' : Lists) (q x : ℕ) (here : home_at qs x ≡ Some q) (out : IsUnlinked qs qs' q x) (gone : IsTakenFromBucket bu bu' x) where
   same-some : (m n : ℕ) → Some m ≡ Some n → m ≡ n
   same-some m n e = cc
 
@@ -71,11 +77,16 @@ module _ (al qs bu : Lists) (bs : List Waiter) (li : List (Option Due)) (id_of :
       (length-map qs'.lists (λ ids. map (block_at bs) ids) ∙ out.counts.lists ∙ sym (length-set (map (λ ids. map (block_at bs) ids) qs.lists) q (without_first (λ w. w.thread == number_at bs x) (get_or (map (λ ids. map (block_at bs) ids) qs.lists) q [])) ∙ length-map qs.lists (λ ids. map (block_at bs) ids)))
       take-at)
 
-  take-bucketed : (c : ℕ) → c < 263 → list_at bu' c ≡ filter (λ y. bucket_of (block_at bs y).event == c) (list_at qs' 4)
-  take-bucketed c lt =
-      taken-lists bu bu' b x laid.buckets_sound there gone.list c ∙ ap (without x) (laid.bucketed c lt)
-      ∙ sym (filter-without (λ y. bucket_of (block_at bs y).event == c) x (list_at qs 4))
-      ∙ ap (filter (λ y. bucket_of (block_at bs y).event == c)) (sym (taken-lists qs qs' q x laid.queues_sound here out.list 4))
+  take-bucketed : IsBucketed qs' bu' bs
+  take-bucketed = record {
+    sound = gone.sound;
+    wide = omega (arith, laid.bucketed.wide, gone.counts.lists);
+    many = omega (arith, laid.bucketed.many, gone.counts.lists, gone.counts.ids);
+    waiting = λ b. gone.lists b ∙ ap (without x) (laid.bucketed.waiting b)
+        ∙ sym (filter-without (λ y. bucket_of (list_count bu) (block_at bs y).event == b) x (list_at qs 4))
+        ∙ ap (filter (λ y. bucket_of (list_count bu) (block_at bs y).event == b)) (sym (taken-lists qs qs' q x laid.queues_sound here out.list 4))
+        ∙ ap (λ (n : ℕ). filter (λ y. bucket_of n (block_at bs y).event == b) (list_at qs' 4)) (sym gone.counts.lists);
+  }
 
   take-limited : (y : ℕ) → due_at (set li x None) y ≡ limit_in (home_at qs' y) (block_at bs y)
   take-limited y = elim (cases_eq y x) [
@@ -95,18 +106,14 @@ module _ (al qs bu : Lists) (bs : List Waiter) (li : List (Option Due)) (id_of :
   take-laid = record {
     alive_sound = laid.alive_sound;
     queues_sound = out.sound;
-    buckets_sound = gone.sound;
     alive_count = laid.alive_count;
     queue_count = out.counts.lists ∙ laid.queue_count;
-    bucket_count = gone.counts.lists ∙ laid.bucket_count;
     queues_room = omega (arith, laid.queues_room, out.counts.ids);
     buckets_room = omega (arith, laid.buckets_room, gone.counts.ids);
     blocks_room = laid.blocks_room;
     limits_room = omega (arith, laid.limits_room, length-set {A = Option Due} li x None);
     lives = λ y p e. laid.lives y p (still y p e).0;
     found = laid.found;
-    unbucketed = λ y e. elim (cases_eq y x) [ inl s ↦ ap (home_at bu') s ∙ gone.home.this | inr ne ↦ gone.home.others y ne ∙ laid.unbucketed y (sym (out.home.others y ne) ∙ e) ];
-    in_bucket = λ y p e. let s = still y p e in subst (λ (o : Option ℕ). IsSome o) (sym (gone.home.others y s.1)) (laid.in_bucket y p s.0);
     bucketed = take-bucketed;
     limited = take-limited;
   }

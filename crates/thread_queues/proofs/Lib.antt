@@ -1,4 +1,4 @@
-pub mod Buckets
+pub mod Bucketing
 pub mod Counted
 pub mod Counting
 pub mod Earliest

@@ -10,8 +10,9 @@ use Rattle.thread_queues.specs.declared.event.Waiter.{Waiter}
 use Rattle.thread_queues.specs.Firsts.{due_at}
 use Rattle.thread_queues.specs.Placed.{times}
 use Rattle.thread_queues.specs.Slotted.{limit_in, with_thread, without_thread}
-use Rattle.thread_queues.specs.Laid.{block_at, number_at, bucket_of, slotted, IsLaid}
-use Rattle.thread_queues.proofs.Ids.{map-same, filter-same, without-first-map, times-has}
+use Rattle.thread_queues.specs.Laid.{block_at, number_at, slotted, IsLaid}
+use Rattle.thread_queues.proofs.Bucketing.{still-bucketed}
+use Rattle.thread_queues.proofs.Ids.{map-same, without-first-map, times-has}
 use Rattle.thread_queues.proofs.Moving.{not-in, block-same, block-other, same-at, map-lists}
 use Rattle.thread_queues.proofs.Putting.{IsPushed}
 use Rattle.thread_queues.proofs.Leaving.{IsUnlinked}
@@ -117,19 +118,15 @@ module _ (al qs bu : Lists) (bs : List Waiter) (li : List (Option Due)) (id_of :
     added-laid = record {
       alive_sound = pushed.sound;
       queues_sound = laid.queues_sound;
-      buckets_sound = laid.buckets_sound;
       alive_count = counts.lists ∙ laid.alive_count;
       queue_count = laid.queue_count;
-      bucket_count = laid.bucket_count;
       queues_room = omega (arith, laid.queues_room, counts.ids);
       buckets_room = omega (arith, laid.buckets_room, counts.ids);
       blocks_room = omega (arith, laid.blocks_room, counts.ids, length-set bs x w);
       limits_room = omega (arith, laid.limits_room, counts.ids);
       lives = λ y q e. moved-other 1 0 (λ s. omega (arith, s)) out pushed y (λ s. none-some idle (sym (ap (home_at qs) s) ∙ e)) ∙ laid.lives y q e;
       found = λ u y. added-found u y;
-      unbucketed = laid.unbucketed;
-      in_bucket = laid.in_bucket;
-      bucketed = λ b lt. laid.bucketed b lt ∙ sym (filter-same (λ y. bucket_of (block_at (set bs x w) y).event == b) (λ y. bucket_of (block_at bs y).event == b) (list_at qs 4) (λ y h. ap (λ (v : Waiter). bucket_of v.event == b) (block-in 4 y h)));
+      bucketed = still-bucketed qs bu bs laid.queues_sound laid.bucketed qs (set bs x w) refl (block-in 4);
       limited = added-limited;
     }
       where
@@ -154,10 +151,8 @@ module _ (al qs bu : Lists) (bs : List Waiter) (li : List (Option Due)) (id_of :
     removed-laid = record {
       alive_sound = pushed.sound;
       queues_sound = laid.queues_sound;
-      buckets_sound = laid.buckets_sound;
       alive_count = counts.lists ∙ laid.alive_count;
       queue_count = laid.queue_count;
-      bucket_count = laid.bucket_count;
       queues_room = omega (arith, laid.queues_room, counts.ids);
       buckets_room = omega (arith, laid.buckets_room, counts.ids);
       blocks_room = omega (arith, laid.blocks_room, counts.ids);
@@ -177,8 +172,6 @@ module _ (al qs bu : Lists) (bs : List Waiter) (li : List (Option Due)) (id_of :
               others u (λ e. nx (some-same (sym before ∙ ap id_of e ∙ (laid.found t x).1 (lives, number)))) ∙ before
         ],
       );
-      unbucketed = laid.unbucketed;
-      in_bucket = laid.in_bucket;
       bucketed = laid.bucketed;
       limited = laid.limited;
     }

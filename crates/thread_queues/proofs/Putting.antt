@@ -1,16 +1,16 @@
 -- The lists, blocks and limits stand for the threads, as a thread goes into a queue.
-use Rattle.std.proofs.Common.{◌≡◌, ◌∙◌, ℕ, ◌<◌, ◌==◌, Bool, false, cond, List, [], ◌∷◌, ◌++◌, length, map, get_or, refl, ap, sym, subst, arith, inl, inr, Option, Some, None, IsSome}
+use Rattle.std.proofs.Common.{◌≡◌, ◌∙◌, ℕ, ◌<◌, ◌==◌, ◌&&◌, Bool, false, cond, List, [], ◌∷◌, ◌++◌, length, map, get_or, refl, ap, sym, subst, arith, inl, inr, Option, Some, None}
 use Rattle.std.proofs.Math.ListN.{set}
 use Rattle.std.specs.List.{filter}
 use Rattle.std.proofs.lemmas.List.{get_or-set_same, get_or-set_other, length-set, length-map, map-append}
 use Rattle.std.proofs.lemmas.Bool.{cases_eq, eq-eqb, ne_eqb}
-use Rattle.link_lists.specs.Lists.{Lists, list_at, home_at, id_count, ListBecomes, HomeBecomes, SameCounts, IsSound, has}
+use Rattle.link_lists.specs.Lists.{Lists, list_at, home_at, list_count, id_count, ListBecomes, HomeBecomes, SameCounts, IsSound, has}
 use Rattle.link_lists.proofs.Members.{has-both}
 use Rattle.thread_queues.specs.declared.event.Due.{Due}
 use Rattle.thread_queues.specs.declared.event.Waiter.{Waiter}
 use Rattle.thread_queues.specs.Firsts.{due_at}
 use Rattle.thread_queues.specs.Slotted.{limit_in, put_in}
-use Rattle.thread_queues.specs.Laid.{block_at, number_at, bucket_of, bucket_in, slotted, IsLaid}
+use Rattle.thread_queues.specs.Laid.{block_at, number_at, bucket_of, bucket_put, slotted, IsBucketed, IsLaid}
 use Rattle.thread_queues.proofs.Ids.{map-same, filter-same, filter-end}
 use Rattle.thread_queues.proofs.Moving.{not-in, block-same, block-other, number-kept, map-lists, same-at}
 use Rattle.thread_queues.proofs.Laying.{queue-is}
@@ -22,13 +22,19 @@ pub record IsPushed (old new : Lists) (l x : ℕ) : Type 0 where
   pub counts : SameCounts old new
   pub sound : IsSound new
 
+-- an id went into a queue, and where it waits there, to the end of a bucket
+pub record IsPutInBucket (old new : Lists) (q b x : ℕ) : Type 0 where
+  pub lists : (k : ℕ) → list_at new k ≡ bucket_put q b x k (list_at old k)
+  pub counts : SameCounts old new
+  pub sound : IsSound new
+
 module _ (al qs bu : Lists) (bs : List Waiter) (li : List (Option Due)) (id_of : ℕ → Option ℕ) (laid : IsLaid al qs bu bs li id_of) where
   none-some : (o : Option ℕ) (l : ℕ) → o ≡ None → o ≡ Some l → ⊥
   none-some o l e f = cc
 
   -- a thread goes into a queue
   module _ (qs' bu' : Lists) (q x : ℕ) (w : Waiter) (lt : q < 6) (live : home_at al x ≡ Some 0) (number : number_at bs x ≡ w.thread) (free : home_at qs x ≡ None)
-      (pushed : IsPushed qs qs' q x) (bucket : IsPushed bu bu' (bucket_in q w.event) x) where
+      (pushed : IsPushed qs qs' q x) (bucket : IsPutInBucket bu bu' q (bucket_of (list_count bu) w.event) x) where
     there : x < id_count al
     there = (laid.alive_sound.there 0 x live).1
 
@@ -67,35 +73,28 @@ module _ (al qs bu : Lists) (bs : List Waiter) (li : List (Option Due)) (id_of :
         (length-map qs'.lists (λ ids. map (block_at (set bs x w)) ids) ∙ pushed.counts.lists ∙ sym (length-set (map (λ ids. map (block_at bs) ids) qs.lists) q (get_or (map (λ ids. map (block_at bs) ids) qs.lists) q [] ++ w ∷ []) ∙ length-map qs.lists (λ ids. map (block_at bs) ids)))
         put-at)
 
-    -- the test of a bucket
-    tests-kept : (b : ℕ) → filter (λ y. bucket_of (block_at (set bs x w) y).event == b) (list_at qs 4) ≡ filter (λ y. bucket_of (block_at bs y).event == b) (list_at qs 4)
-    tests-kept b = filter-same (λ y. bucket_of (block_at (set bs x w) y).event == b) (λ y. bucket_of (block_at bs y).event == b) (list_at qs 4)
-        (λ y h. ap (λ (v : Waiter). bucket_of v.event == b) (block-other bs x y w (λ e. has-both y (list_at qs 4) h (subst (λ (z : ℕ). has z (list_at qs 4) ≡ false) (sym e) (nowhere 4)))))
+    -- each bucket, by the blocks with the new one
+    kept : (b : ℕ) → list_at bu b ≡ filter (λ y. bucket_of (list_count bu) (block_at (set bs x w) y).event == b) (list_at qs 4)
+    kept b = laid.bucketed.waiting b ∙ sym (filter-same (λ y. bucket_of (list_count bu) (block_at (set bs x w) y).event == b) (λ y. bucket_of (list_count bu) (block_at bs y).event == b) (list_at qs 4)
+        (λ y h. ap (λ (v : Waiter). bucket_of (list_count bu) v.event == b) (block-other bs x y w (λ e. has-both y (list_at qs 4) h (subst (λ (z : ℕ). has z (list_at qs 4) ≡ false) (sym e) (nowhere 4))))))
 
-    put-bucketed : (b : ℕ) → b < 263 → list_at bu' b ≡ filter (λ y. bucket_of (block_at (set bs x w) y).event == b) (list_at qs' 4)
-    put-bucketed b low = elim (cases_eq q 4) [
-      | inl e ↦ waits b low (ap (λ (j : ℕ). bucket_in j w.event) e) (subst (λ (j : ℕ). list_at qs' j ≡ list_at qs j ++ x ∷ []) e pushed.list.this)
-      | inr ne ↦ bucket.list.others b (λ e. other e (ap {B = ℕ} (λ (c : Bool). cond c (bucket_of w.event) 263) (ne_eqb q 4 ne))) ∙ laid.bucketed b low ∙ sym (tests-kept b)
-          ∙ ap (filter (λ y. bucket_of (block_at (set bs x w) y).event == b)) (sym (pushed.list.others 4 (λ e. ne (sym e))))
+    put-waiting : (b : ℕ) → list_at bu' b ≡ filter (λ y. bucket_of (list_count bu) (block_at (set bs x w) y).event == b) (list_at qs' 4)
+    put-waiting b = bucket.lists b ∙ elim (cases_eq q 4) [
+      | inl e ↦ ap (λ (t : Bool). cond (t && (bucket_of (list_count bu) w.event == b)) (list_at bu b ++ x ∷ []) (list_at bu b)) (eq-eqb q 4 e)
+          ∙ ap (λ (ids : List ℕ). cond (bucket_of (list_count bu) w.event == b) (ids ++ x ∷ []) ids) (kept b)
+          ∙ ap (λ (t : Bool). cond t (filter (λ y. bucket_of (list_count bu) (block_at (set bs x w) y).event == b) (list_at qs 4) ++ x ∷ []) (filter (λ y. bucket_of (list_count bu) (block_at (set bs x w) y).event == b) (list_at qs 4))) (ap (λ (v : Waiter). bucket_of (list_count bu) v.event == b) (sym (block-same bs x w in-blocks)))
+          ∙ sym (filter-end (λ y. bucket_of (list_count bu) (block_at (set bs x w) y).event == b) (list_at qs 4) x)
+          ∙ ap (filter (λ y. bucket_of (list_count bu) (block_at (set bs x w) y).event == b)) (sym (subst (λ (j : ℕ). list_at qs' j ≡ list_at qs j ++ x ∷ []) e pushed.list.this))
+      | inr ne ↦ ap (λ (t : Bool). cond (t && (bucket_of (list_count bu) w.event == b)) (list_at bu b ++ x ∷ []) (list_at bu b)) (ne_eqb q 4 ne) ∙ kept b ∙ ap (filter (λ y. bucket_of (list_count bu) (block_at (set bs x w) y).event == b)) (sym (pushed.list.others 4 (λ e. ne (sym e))))
     ]
-      where
-        other : b ≡ bucket_in q w.event → bucket_in q w.event ≡ 263 → ⊥
-        other e f = omega (arith, e, f, low)
 
-        waits : (b : ℕ) → b < 263 → bucket_in q w.event ≡ bucket_of w.event → list_at qs' 4 ≡ list_at qs 4 ++ x ∷ [] → list_at bu' b ≡ filter (λ y. bucket_of (block_at (set bs x w) y).event == b) (list_at qs' 4)
-        waits b low same more = elim (cases_eq (bucket_of w.event) b) [
-          | inl e ↦ subst (λ (j : ℕ). list_at bu' j ≡ list_at bu j ++ x ∷ []) (same ∙ e) bucket.list.this
-              ∙ ap (λ (ys : List ℕ). ys ++ x ∷ []) (laid.bucketed b low ∙ sym (tests-kept b))
-              ∙ sym (ap (filter test) more ∙ filter-end test (list_at qs 4) x ∙ ap (λ (c : Bool). cond c (filter test (list_at qs 4) ++ x ∷ []) (filter test (list_at qs 4))) (at-x ∙ eq-eqb (bucket_of w.event) b e))
-          | inr ne ↦ bucket.list.others b (λ e. ne (sym same ∙ sym e)) ∙ laid.bucketed b low ∙ sym (tests-kept b)
-              ∙ sym (ap (filter test) more ∙ filter-end test (list_at qs 4) x ∙ ap (λ (c : Bool). cond c (filter test (list_at qs 4) ++ x ∷ []) (filter test (list_at qs 4))) (at-x ∙ ne_eqb (bucket_of w.event) b ne))
-        ]
-          where
-            test : ℕ → Bool
-            test y = bucket_of (block_at (set bs x w) y).event == b
-
-            at-x : (bucket_of (block_at (set bs x w) x).event == b) ≡ (bucket_of w.event == b)
-            at-x = ap (λ (v : Waiter). bucket_of v.event == b) (block-same bs x w in-blocks)
+    put-bucketed : IsBucketed qs' bu' (set bs x w)
+    put-bucketed = record {
+      sound = bucket.sound;
+      wide = omega (arith, laid.bucketed.wide, bucket.counts.lists);
+      many = omega (arith, laid.bucketed.many, bucket.counts.lists, bucket.counts.ids);
+      waiting = λ b. put-waiting b ∙ ap (λ (n : ℕ). filter (λ y. bucket_of n (block_at (set bs x w) y).event == b) (list_at qs' 4)) (sym bucket.counts.lists);
+    }
 
     put-limited : (y : ℕ) → due_at (set li x (limit_in (Some q) w)) y ≡ limit_in (home_at qs' y) (block_at (set bs x w) y)
     put-limited y = elim (cases_eq y x) [
@@ -108,10 +107,8 @@ module _ (al qs bu : Lists) (bs : List Waiter) (li : List (Option Due)) (id_of :
     put-laid = record {
       alive_sound = laid.alive_sound;
       queues_sound = pushed.sound;
-      buckets_sound = bucket.sound;
       alive_count = laid.alive_count;
       queue_count = pushed.counts.lists ∙ laid.queue_count;
-      bucket_count = bucket.counts.lists ∙ laid.bucket_count;
       queues_room = omega (arith, laid.queues_room, pushed.counts.ids);
       buckets_room = omega (arith, laid.buckets_room, bucket.counts.ids);
       blocks_room = omega (arith, laid.blocks_room, length-set bs x w);
@@ -121,14 +118,6 @@ module _ (al qs bu : Lists) (bs : List Waiter) (li : List (Option Due)) (id_of :
         λ e. let r = (laid.found t y).0 e in (r.0, number-kept bs x w in-blocks number y ∙ r.1),
         λ r. (laid.found t y).1 (r.0, sym (number-kept bs x w in-blocks number y) ∙ r.1),
       );
-      unbucketed = λ y e. elim (cases_eq y x) [
-        | inl s ↦ absurd (none-some (home_at qs' y) q e (ap (home_at qs') s ∙ pushed.home.this))
-        | inr ne ↦ bucket.home.others y ne ∙ laid.unbucketed y (sym (pushed.home.others y ne) ∙ e)
-      ];
-      in_bucket = λ y p e. elim (cases_eq y x) [
-        | inl s ↦ subst (λ (o : Option ℕ). IsSome o) (sym (ap (home_at bu') s ∙ bucket.home.this)) refl
-        | inr ne ↦ subst (λ (o : Option ℕ). IsSome o) (sym (bucket.home.others y ne)) (laid.in_bucket y p (sym (pushed.home.others y ne) ∙ e))
-      ];
       bucketed = put-bucketed;
       limited = put-limited;
     }

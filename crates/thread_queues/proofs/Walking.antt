@@ -1,6 +1,6 @@
 -- Along a list of ids, from one on.
-use Rattle.std.proofs.Common.{◌≡◌, ◌∙◌, ℕ, ◌<◌, ◌==◌, Bool, true, false, cond, List, [], ◌∷◌, ◌++◌, length, map, refl, ap, sym, subst, arith, inl, inr, append_assoc, Option, Some, None}
-use Rattle.std.specs.List.{find}
+use Rattle.std.proofs.Common.{◌≡◌, ◌≢◌, ◌∙◌, ℕ, ◌<◌, ◌==◌, Bool, true, false, cond, List, [], ◌∷◌, ◌++◌, length, map, refl, ap, sym, subst, arith, inl, inr, append_assoc, Option, Some, None}
+use Rattle.std.specs.List.{find, filter}
 use Rattle.std.proofs.lemmas.Bool.Decides.{eqb_tells}
 use Rattle.link_lists.specs.Lists.{has, Once, first_of, behind}
 use Rattle.link_lists.proofs.Calls.{behind-parts}
@@ -27,6 +27,10 @@ from-rest x ys [] once = refl
 from-rest x ys (z ∷ zs) once =
     let e : ys ++ x ∷ (z ∷ zs) ≡ (ys ++ x ∷ []) ++ z ∷ zs = sym (append_assoc ys (x ∷ []) (z ∷ zs)) in
     ap (from (Some z)) e ∙ from-parts z (ys ++ x ∷ []) zs (left-out z (ys ++ x ∷ []) zs (once-middle z (ys ++ x ∷ []) zs (subst (λ (l : List ℕ). Once l) e once)))
+
+pub from-first : (xs : List ℕ) → from (first_of xs) xs ≡ xs
+from-first [] = refl
+from-first (x ∷ xs) = ap (λ (b : Bool). cond b (x ∷ xs) (from (Some x) xs)) (same_test x)
 
 -- one step along the list
 pub record IsStep (x : ℕ) (xs : List ℕ) : Type 0 where
@@ -80,3 +84,26 @@ walk-passed {X} f p xs o id w h = sym (ap (find p) (walk-map f xs o id w) ∙ ap
 
 pub walk-shorter : (xs : List ℕ) (o : Option ℕ) (id : ℕ) → IsWalked o id xs → length (from (behind id xs) xs) < length (from o xs)
 walk-shorter xs o id w = let a = ap length w.here in let b = ap length w.next in omega (arith, a, b)
+
+-- each id from one on stands there once
+pub from-once : (o : Option ℕ) (xs : List ℕ) → Once xs → Once (from o xs)
+from-once None xs once = tt
+from-once (Some x) [] once = tt
+from-once (Some x) (y ∷ ys) once = by-test (y == x) (from-once (Some x) ys once.1)
+  where
+    by-test : (b : Bool) → Once (from (Some x) ys) → Once (cond b (y ∷ ys) (from (Some x) ys))
+    by-test true rest = once
+    by-test false rest = rest
+
+-- what is met later is another one, and was not met before
+pub walk-later : (xs : List ℕ) (o : Option ℕ) (id : ℕ) → Once xs → IsWalked o id xs → (x : ℕ) → has x (from (behind id xs) xs) ≡ true → (x ≢ id) × (has x (from o xs) ≡ true)
+walk-later xs o id once w x h =
+    let later : has x w.rest ≡ true = subst (λ (ys : List ℕ). has x ys ≡ true) w.next h in
+    let apart : has id w.rest ≡ false = (subst (λ (ys : List ℕ). Once ys) w.here (from-once o xs once)).0 in
+    (λ e. has-both id w.rest (subst (λ (k : ℕ). has k w.rest ≡ true) e later) apart, subst (λ (ys : List ℕ). has x ys ≡ true) (sym w.here) (has-later x id w.rest later))
+
+pub walk-filter : (p : ℕ → Bool) (xs : List ℕ) (o : Option ℕ) (id : ℕ) → IsWalked o id xs → filter p (from o xs) ≡ filter p (id ∷ from (behind id xs) xs)
+walk-filter p xs o id w = ap (filter p) (w.here ∙ ap (λ (ys : List ℕ). id ∷ ys) (sym w.next))
+
+pub walk-here : (xs : List ℕ) (o : Option ℕ) (id : ℕ) → IsWalked o id xs → has id (from o xs) ≡ true
+walk-here xs o id w = subst (λ (ys : List ℕ). has id ys ≡ true) (sym w.here) (has-first id w.rest)

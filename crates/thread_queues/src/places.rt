@@ -2,7 +2,7 @@
 //!
 //! A call that moves a thread looks for it by number in a hash table, and takes time in proportion to the logarithm of the most threads
 //! that lived at once, since a tree knows when each is due; what a call takes beyond that it says.
-ghost use Rattle.std.specs.Prelude.{◌≡◌, ◌==◌, ◌<◌, ◌≤◌, ◌+◌, ◌↔◌, ℕ, [], None, Some, IfOk, OnOk, OnErr, IsNone, IsSome, IsTrue, length, slice_get, option_map, map, is_some, IsPermutation};
+ghost use Rattle.std.specs.Prelude.{◌≡◌, ◌==◌, ◌<◌, ◌≤◌, ◌+◌, ◌↔◌, ℕ, [], None, Some, IfOk, OnOk, OnErr, IsNone, IsSome, IsTrue, length, slice_get, option_map, filter, map, is_some, IsPermutation};
 ghost use Rattle.std.specs.List.Sorted.{IsSortedBy, IsSortedByKey, IsStableByKey};
 ghost use Rattle.std.specs.Ordering.{nat_cmp};
 ghost use Rattle.ids_base.specs.Classes.{class_of};
@@ -11,8 +11,9 @@ ghost use Rattle.thread_queues.specs.Placed.{times as count, queue, queue_of, wa
 ghost use Rattle.thread_queues.specs.Shown.{class_queue, sleeper};
 ghost use Rattle.thread_queues.specs.Ticks.{due_threads, first_due, still_count, raised, ticked, is_due_before};
 
+use crate::buckets::WAITS;
 use crate::event::{Due, Event, Sleeper, Waiter, same_event};
-use crate::slots::{Slots, WAITS};
+use crate::slots::Slots;
 use ids_base::class::Class;
 use ids_base::numbers::ThreadNo;
 use std::alloc::{AllocError, Global};
@@ -113,16 +114,15 @@ impl Threads {
         ready.iter().map(|waiter| waiter.thread).collect(alloc)
     }
 
-    /// The threads that wait for an event, in the order of their queue. Takes time and memory in proportion to all waiting threads.
+    /// The threads that wait for an event, in the order of their queue.
+    ///
+    /// Takes time and memory in proportion to the threads in the event's bucket: those that wait for it and, for a latch or a page, those
+    /// that wait for others of the bucket. As at `wake_one`, these are fewer than one on average where numbers spread well, and at worst
+    /// all that wait for latches and pages.
     pub fn waiting_for(&self, alloc: Global, event: Event) -> Result<Vec<ThreadNo>, AllocError>
         ensures { IfOk result (λ v. v.items ≡ map (λ w. w.thread) (queue_of self.now event)) }
     {
-        let waits = self.slots.list(alloc, WAITS)?;
-        waits
-            .iter()
-            .filter(|waiter| same_event(waiter.event, event))
-            .map(|waiter| waiter.thread)
-            .collect(alloc)
+        threads_for(alloc, &self.slots.bucket(alloc, event)?, event)
     }
 
     /// All waiting threads, by event in the order of that type, those of one event in the order of their queue.
@@ -154,7 +154,9 @@ impl Threads {
 
     /// Makes a thread, which goes to the end of its class's ready queue.
     ///
-    /// Takes room for it in every queue, so that no later call takes any; tables grow now and then. For want of memory nothing changes.
+    /// Takes room for it in every queue, so that no later call takes any. Tables grow to about twice their size now and then, and with
+    /// them the buckets by events: a call takes the logarithm on average over many, and at worst time in proportion to the most threads
+    /// that lived at once. For want of memory nothing changes.
     pub fn spawn(&mut self, thread: ThreadNo, class: Class) -> Result<(), AllocError>
         requires { count thread self.old.live ≡ 0 }
         ensures spawned { OnOk result (self.new ≡ spawned self.old thread class) }
@@ -254,8 +256,10 @@ impl Threads {
 
     /// The thread that waits longest for an event gets ready. Answers it, and None exactly where nobody waits.
     ///
-    /// An event without a number has its own queue. One with a number is looked for among the threads that wait for an event of its kind
-    /// whose number leaves the same rest by 128.
+    /// Finds the thread in constant time where the event has no number. Latches and pages share buckets by their numbers, and the call
+    /// may pass over the threads of the bucket that wait for others of them. There are at least as many buckets as threads that lived at
+    /// once: where numbers spread well over them, these are fewer than one on average; at worst they are all that wait for latches and
+    /// pages.
     pub fn wake_one(&mut self, event: Event) -> Option<ThreadNo>
         ensures thread { result ≡ option_map (λ w. w.thread) (first_waiter self.old event) }
         ensures woken { self.new ≡ woken_one self.old event }
@@ -359,6 +363,18 @@ fn ready_waiter(thread: ThreadNo, class: Class) -> Waiter
         class,
         due: None,
     }
+}
+
+/// The threads among these that wait for an event, in their order.
+fn threads_for(alloc: Global, waiters: &[Waiter], event: Event) -> Result<Vec<ThreadNo>, AllocError>
+    ensures { IfOk result
+        (λ v. v.items ≡ map (λ w. w.thread) (filter (λ w. is_event w.event event) waiters.now)) }
+{
+    waiters
+        .iter()
+        .filter(|waiter| same_event(waiter.event, event))
+        .map(|waiter| waiter.thread)
+        .collect(alloc)
 }
 
 /// Sleeping threads without what they have of waiting ones.

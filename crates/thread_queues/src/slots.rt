@@ -1,14 +1,15 @@
 //! Live threads in queues, each in at most one.
 //!
 //! Each live thread has a block, found by the thread's number; queues are lists of the blocks' places. The threads that wait stand also in
-//! buckets by their events, each bucket in the order of waiting, so that the first one for an event is found with few looks.
-ghost use Rattle.std.specs.Prelude.{◌≡◌, ◌==◌, ◌<◌, ◌≤◌, ◌+◌, ◌↔◌, ℕ, true, None, Some, IfOk, OnOk, OnErr, IsTrue, find, map, length, slice_get, option_map};
+//! buckets by their events (module `buckets`), so that the first one for an event is found with few looks.
+ghost use Rattle.std.specs.Prelude.{◌≡◌, ◌==◌, ◌<◌, ◌≤◌, ◌+◌, ◌↔◌, ℕ, true, None, Some, IfOk, OnOk, OnErr, IsTrue, find, filter, map, length, slice_get, option_map};
 ghost use Rattle.link_lists.specs.Lists.{list_at, list_count, has};
 ghost use Rattle.thread_queues.specs.Events.{is_event};
 ghost use Rattle.thread_queues.specs.Placed.{times};
 ghost use Rattle.thread_queues.specs.Slotted.{queue_at, threads_of, nothing, put_in, taken_from, popped_from, with_thread, without_thread, limit_in, IsApart, IsFirstOf};
-ghost use Rattle.thread_queues.specs.Laid.{block_at, bucket_of, bucket_in};
+ghost use Rattle.thread_queues.specs.Laid.{block_at};
 
+use crate::buckets::{self, WAITS};
 use crate::event::{Due, Event, Waiter, same_event};
 use crate::limits::Limits;
 use ids_base::class::Class;
@@ -23,16 +24,8 @@ const LIVE: u32 = 0;
 
 const FREE: u32 = 1;
 
-/// The queue of the threads that wait.
-pub const WAITS: u32 = 4;
-
 /// How many queues there are.
 const QUEUES: u32 = 6;
-
-/// The bucket of those that do not wait, and how many buckets there are.
-const OTHERS: u32 = 263;
-
-const BUCKETS: u32 = 264;
 
 /// Live threads in six queues.
 #[derive(Drop)]
@@ -43,6 +36,7 @@ pub struct Slots {
     blocks: Vec<Waiter>,
     limits: Limits,
     numbers: HashMap<ThreadNo, u32>,
+    alloc: Global,
 }
 
 impl Model for Slots {
@@ -66,7 +60,7 @@ impl Slots {
     {
         let alive = Lists::new(alloc, 2)?;
         let queues = Lists::new(alloc, QUEUES)?;
-        let buckets = Lists::new(alloc, BUCKETS)?;
+        let buckets = buckets::none(alloc)?;
         Ok(Self {
             alive,
             queues,
@@ -74,6 +68,7 @@ impl Slots {
             blocks: Vec::new(alloc),
             limits: Limits::new(alloc),
             numbers: HashMap::new(alloc),
+            alloc,
         })
     }
 
@@ -113,7 +108,7 @@ impl Slots {
         })?;
         self.limits.add()?;
         self.queues.add_id()?;
-        self.buckets.add_id()?;
+        buckets::add_place(self.alloc, &mut self.buckets, &self.queues, &self.blocks)?;
         let id = self.alive.add_id()?;
         self.alive.push_back(FREE, id);
         Ok(())
@@ -145,7 +140,7 @@ impl Slots {
         let id = *id;
         self.blocks[id as usize] = waiter;
         self.queues.push_back(queue, id);
-        self.buckets.push_back(bucket_in(queue, waiter.event), id);
+        buckets::put(&mut self.buckets, queue, waiter.event, id);
         self.limits.set(id as usize, limit_in(queue, waiter));
     }
 
@@ -160,7 +155,7 @@ impl Slots {
         };
         let id = *id;
         self.queues.unlink(id);
-        self.buckets.unlink(id);
+        buckets::take(&mut self.buckets, id);
         self.limits.set(id as usize, None);
         self.blocks[id as usize]
     }
@@ -182,7 +177,17 @@ impl Slots {
         ensures { result
             ≡ option_map (λ w. w.thread) (find (λ w. is_event w.event event) (queue_at self.now 4)) }
     {
-        first_of_bucket(&self.buckets, bucket_of(event), &self.blocks, event)
+        let bucket = buckets::bucket_of(self.buckets.list_count(), event);
+        first_of_bucket(&self.buckets, bucket, &self.blocks, event)
+    }
+
+    /// The threads that wait for an event, in the order of waiting, among others of its bucket.
+    pub fn bucket(&self, alloc: Global, event: Event) -> Result<Vec<Waiter>, AllocError>
+        ensures { IfOk result
+            (λ v. filter (λ w. is_event w.event event) v.items ≡ filter (λ w. is_event w.event event) (queue_at self.now 4)) }
+    {
+        let bucket = buckets::bucket_of(self.buckets.list_count(), event);
+        listed(alloc, &self.buckets, bucket, &self.blocks)
     }
 
     /// Whether a thread stands in a queue.
@@ -264,36 +269,6 @@ fn first_of_bucket(lists: &Lists, list: u32, blocks: &[Waiter], event: Event) ->
         at = lists.next(id);
     }
     None
-}
-
-/// The bucket of a thread in a queue.
-fn bucket_in(queue: u32, event: Event) -> u32
-    ensures bucket { result ≡ bucket_in queue event }
-    ensures in_range { result < 264 }
-{
-    if queue == WAITS {
-        bucket_of(event)
-    } else {
-        OTHERS
-    }
-}
-
-/// The bucket of an event.
-fn bucket_of(event: Event) -> u32
-    ensures bucket { result ≡ bucket_of event }
-    ensures in_range { result < 263 }
-{
-    match event {
-        Event::Lock => 0,
-        Event::LogFlush => 1,
-        Event::PhysFlush => 2,
-        Event::LogSpace => 3,
-        Event::Checkpoint => 4,
-        Event::Critical => 5,
-        Event::Cleaning => 6,
-        Event::Latch(frame) => 7 + frame % 128,
-        Event::Page(page) => 135 + page % 128,
-    }
 }
 
 /// When a thread in a queue is due: never in a ready queue, and always where it sleeps.

@@ -1,4 +1,4 @@
-//! A run of some thousand calls beside plain lists.
+//! Many threads that wait, and a run of some thousand calls beside plain lists.
 use crate::event::{Event, Sleeper, Waiter};
 use crate::places::Threads;
 use ids_base::class::Class;
@@ -47,6 +47,66 @@ fn agrees_with_lists(rt: HostRuntime) -> Result<(), Fail> {
         }
     }
     Ok(())
+}
+
+/// Three hundred threads wait for a hundred latches and pages, while buckets grow, and are woken in their order.
+#[test]
+fn many_wait(rt: HostRuntime) -> Result<(), Fail> {
+    let mut threads = Threads::new(rt.alloc(), 1)?;
+    for thread in 0..300 {
+        assert!(rt; !threads.lives(thread));
+        threads.spawn(thread, Class::Cpu)?;
+        starts(&rt, &mut threads, thread);
+        waits(&rt, &mut threads, thread);
+    }
+    for group in 0..50 {
+        let first = group * 6;
+        let page = [first, first + 3];
+        let latch = [first + 1, first + 2, first + 4, first + 5];
+        let number = group * 64;
+        wake_all(&rt, rt.alloc(), &mut threads, Event::Page(number), &page)?;
+        wake_all(&rt, rt.alloc(), &mut threads, Event::Latch(number), &latch)?;
+    }
+    Ok(())
+}
+
+/// The only ready thread runs.
+fn starts(rt: &impl Abort, threads: &mut Threads, thread: ThreadNo) {
+    assert!(rt; threads.processors() > 0);
+    assert!(rt; threads.running(0).is_none());
+    assert_eq!(rt; threads.dispatch(0), Some(thread));
+}
+
+/// The running thread waits: two of six for a page and four for a latch.
+fn waits(rt: &impl Abort, threads: &mut Threads, thread: ThreadNo) {
+    let number = thread / 6 % 50 * 64;
+    assert!(rt; threads.processors() > 0);
+    assert!(rt; threads.running(0).is_some());
+    if thread % 3 == 0 {
+        threads.wait_on(0, Event::Page(number));
+    } else {
+        threads.wait_on(0, Event::Latch(number));
+    }
+}
+
+/// These wait for an event, and each is woken in turn.
+fn wake_all(
+    rt: &impl Abort,
+    alloc: Global,
+    threads: &mut Threads,
+    event: Event,
+    waiters: &[ThreadNo],
+) -> Result<(), AllocError> {
+    assert!(rt; threads.waiting_for(alloc, event)?.as_slice() == waiters);
+    for waiter in waiters {
+        wakes_first(rt, threads, event, Some(*waiter));
+    }
+    wakes_first(rt, threads, event, None);
+    Ok(())
+}
+
+fn wakes_first(rt: &impl Abort, threads: &mut Threads, event: Event, first: Option<ThreadNo>) {
+    assert_eq!(rt; threads.wake_one(event), first);
 }
 
 fn step(

@@ -1,12 +1,13 @@
 use Rattle.std.proofs.Common.{◌≡◌, ◌<◌, ◌∙◌, ℕ, List, Option, Some, None, nat_eq, sym, ap, subst, arith}
 use Rattle.std.proofs.Math.ListN.{set}
 use Rattle.std.specs.HashMap.{get}
+use Rattle.link_lists.specs.Lists.{list_count}
 use Rattle.thread_queues.specs.declared.event.Due.{Due}
 use Rattle.thread_queues.specs.Placed.{times}
 use Rattle.thread_queues.specs.Slotted.{Slotted, put_in, IsApart}
-use Rattle.thread_queues.specs.Laid.{IsLaid}
+use Rattle.thread_queues.specs.Laid.{bucket_of, IsLaid}
 use Rattle.thread_queues.proofs.Laying.{live-found, free-at}
-use Rattle.thread_queues.proofs.Putting.{IsPushed, put-laid, put-shown}
+use Rattle.thread_queues.proofs.Putting.{IsPutInBucket, put-laid, put-shown}
 use Rattle.thread_queues.proofs.slots.Slots.put.Goals as goal
 
 none-some : {x : ℕ} → None ≡ Some x → ⊥
@@ -32,22 +33,28 @@ pub push_back-requires-clause-free : goal.push_back-requires-clause-free
 push_back-requires-clause-free c =
     (free-at _ _ _ _ _ _ c.self.invariant c.args.waiter.thread c.in-Some.id.now (sym c.in-Some.ensures.value) (subst (λ (s : Slotted). IsApart s c.args.waiter.thread) (sym c.self.view_is) c.requires.apart)).free
 
-pub push_back-requires-2-clause-there : goal.push_back-requires-2-clause-there
-push_back-requires-2-clause-there c =
+pub put-requires-clause-wide : goal.put-requires-clause-wide
+put-requires-clause-wide c = c.self.invariant.bucketed.wide
+
+pub put-requires-clause-there : goal.put-requires-clause-there
+put-requires-clause-there c =
     (free-at _ _ _ _ _ _ c.self.invariant c.args.waiter.thread c.in-Some.id.now (sym c.in-Some.ensures.value) (subst (λ (s : Slotted). IsApart s c.args.waiter.thread) (sym c.self.view_is) c.requires.apart)).in_buckets
 
-pub push_back-requires-2-clause-free : goal.push_back-requires-2-clause-free
-push_back-requires-2-clause-free c =
+pub put-requires-clause-free : goal.put-requires-clause-free
+put-requires-clause-free c =
     (free-at _ _ _ _ _ _ c.self.invariant c.args.waiter.thread c.in-Some.id.now (sym c.in-Some.ensures.value) (subst (λ (s : Slotted). IsApart s c.args.waiter.thread) (sym c.self.view_is) c.requires.apart)).unbucketed
+
+pub put-requires-clause-sound : goal.put-requires-clause-sound
+put-requires-clause-sound c = c.self.invariant.bucketed.sound
 
 pub invariant_of-self : goal.invariant_of-self
 invariant_of-self c =
     let a = c.self.inside in
     let x = c.in-Some.id.now in
     let at = free-at _ _ _ _ _ _ c.self.invariant c.args.waiter.thread x (sym c.in-Some.ensures.value) (subst (λ (s : Slotted). IsApart s c.args.waiter.thread) (sym c.self.view_is) c.requires.apart) in
-    let bucket = subst (λ (b : ℕ). IsPushed a.buckets c.push_back-2.new.self b x) c.bucket_in.ensures.bucket (record { list = c.push_back-2.ensures.list; home = c.push_back-2.ensures.home; counts = c.push_back-2.ensures.counts; sound = c.push_back-2.ensures.sound }) in
-    subst (λ (li : List (Option Due)). IsLaid a.alive c.push_back.new.self c.push_back-2.new.self (set a.blocks.items x c.args.waiter) li (get nat_eq a.numbers)) (sym (c.set.ensures ∙ ap (set a.limits x) c.limit_in.ensures))
-    (put-laid a.alive a.queues a.buckets a.blocks.items a.limits (get nat_eq a.numbers) c.self.invariant c.push_back.new.self c.push_back-2.new.self c.args.queue x c.args.waiter c.requires.queue at.live at.number at.free
+    let bucket : IsPutInBucket a.buckets c.put.new.buckets c.args.queue (bucket_of (list_count a.buckets) c.args.waiter.event) x = record { lists = c.put.ensures.lists; counts = c.put.ensures.counts; sound = c.put.ensures.sound } in
+    subst (λ (li : List (Option Due)). IsLaid a.alive c.push_back.new.self c.put.new.buckets (set a.blocks.items x c.args.waiter) li (get nat_eq a.numbers)) (sym (c.set.ensures ∙ ap (set a.limits x) c.limit_in.ensures))
+    (put-laid a.alive a.queues a.buckets a.blocks.items a.limits (get nat_eq a.numbers) c.self.invariant c.push_back.new.self c.put.new.buckets c.args.queue x c.args.waiter c.requires.queue at.live at.number at.free
     (record { list = c.push_back.ensures.list; home = c.push_back.ensures.home; counts = c.push_back.ensures.counts; sound = c.push_back.ensures.sound }) bucket)
 
 pub returns : goal.returns
@@ -55,7 +62,7 @@ returns c =
     let a = c.self.inside in
     let x = c.in-Some.id.now in
     let at = free-at _ _ _ _ _ _ c.self.invariant c.args.waiter.thread x (sym c.in-Some.ensures.value) (subst (λ (s : Slotted). IsApart s c.args.waiter.thread) (sym c.self.view_is) c.requires.apart) in
-    let bucket = subst (λ (b : ℕ). IsPushed a.buckets c.push_back-2.new.self b x) c.bucket_in.ensures.bucket (record { list = c.push_back-2.ensures.list; home = c.push_back-2.ensures.home; counts = c.push_back-2.ensures.counts; sound = c.push_back-2.ensures.sound }) in
-    put-shown a.alive a.queues a.buckets a.blocks.items a.limits (get nat_eq a.numbers) c.self.invariant c.push_back.new.self c.push_back-2.new.self c.args.queue x c.args.waiter c.requires.queue at.live at.number at.free
+    let bucket : IsPutInBucket a.buckets c.put.new.buckets c.args.queue (bucket_of (list_count a.buckets) c.args.waiter.event) x = record { lists = c.put.ensures.lists; counts = c.put.ensures.counts; sound = c.put.ensures.sound } in
+    put-shown a.alive a.queues a.buckets a.blocks.items a.limits (get nat_eq a.numbers) c.self.invariant c.push_back.new.self c.put.new.buckets c.args.queue x c.args.waiter c.requires.queue at.live at.number at.free
     (record { list = c.push_back.ensures.list; home = c.push_back.ensures.home; counts = c.push_back.ensures.counts; sound = c.push_back.ensures.sound }) bucket
     ∙ ap (λ (s : Slotted). put_in s c.args.queue c.args.waiter) c.self.view_is

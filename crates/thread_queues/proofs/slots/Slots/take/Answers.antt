@@ -2,8 +2,6 @@ use Rattle.std.proofs.Common.{◌≡◌, ◌<◌, ◌==◌, ◌∙◌, ℕ, List
 use Rattle.std.specs.List.{find}
 use Rattle.std.specs.HashMap.{get}
 use Rattle.std.proofs.lemmas.List.{get_or_default}
-use Rattle.link_lists.specs.Lists.{home_at}
-use Rattle.link_lists.proofs.Calls.{known}
 use Rattle.thread_queues.specs.declared.event.Due.{Due}
 use Rattle.thread_queues.specs.declared.event.Waiter.{Waiter}
 use Rattle.thread_queues.specs.Placed.{times}
@@ -41,30 +39,30 @@ unlink-requires c =
     let x = c.in-Some.id.now in
     let at = placed-at _ _ _ _ _ _ c.self.invariant c.args.queue c.args.thread x (sym c.in-Some.ensures.value) (subst (λ (s : Slotted). 0 < times c.args.thread (threads_of (queue_at s c.args.queue))) (sym c.self.view_is) c.requires) in subst (λ (o : Option ℕ). IsSome o) (sym at.here) refl
 
-pub unlink-requires-2 : goal.unlink-requires-2
-unlink-requires-2 c =
-    let a = c.self.inside in
+pub take-requires-clause-there : goal.take-requires-clause-there
+take-requires-clause-there c =
     let x = c.in-Some.id.now in
-    let at = placed-at _ _ _ _ _ _ c.self.invariant c.args.queue c.args.thread x (sym c.in-Some.ensures.value) (subst (λ (s : Slotted). 0 < times c.args.thread (threads_of (queue_at s c.args.queue))) (sym c.self.view_is) c.requires) in at.bucketed
+    let at = placed-at _ _ _ _ _ _ c.self.invariant c.args.queue c.args.thread x (sym c.in-Some.ensures.value) (subst (λ (s : Slotted). 0 < times c.args.thread (threads_of (queue_at s c.args.queue))) (sym c.self.view_is) c.requires) in at.in_buckets
+
+pub take-requires-clause-sound : goal.take-requires-clause-sound
+take-requires-clause-sound c = c.self.invariant.bucketed.sound
 
 pub invariant_of-self : goal.invariant_of-self
 invariant_of-self c =
     let a = c.self.inside in
     let x = c.in-Some.id.now in
     let at = placed-at _ _ _ _ _ _ c.self.invariant c.args.queue c.args.thread x (sym c.in-Some.ensures.value) (subst (λ (s : Slotted). 0 < times c.args.thread (threads_of (queue_at s c.args.queue))) (sym c.self.view_is) c.requires) in
-    let b = known (home_at a.buckets x) at.bucketed in
-    subst (λ (li : List (Option Due)). IsLaid a.alive c.unlink.new.self c.unlink-2.new.self a.blocks.items li (get nat_eq a.numbers)) (sym c.set.ensures)
-    (take-laid a.alive a.queues a.buckets a.blocks.items a.limits (get nat_eq a.numbers) c.self.invariant c.unlink.new.self c.unlink-2.new.self c.args.queue b.0 x at.here b.1 (record { list = c.unlink.ensures.list c.args.queue at.here; home = c.unlink.ensures.home; counts = c.unlink.ensures.counts; sound = c.unlink.ensures.sound }) (record { list = c.unlink-2.ensures.list b.0 b.1; home = c.unlink-2.ensures.home; counts = c.unlink-2.ensures.counts; sound = c.unlink-2.ensures.sound }))
+    subst (λ (li : List (Option Due)). IsLaid a.alive c.unlink.new.self c.take.new.buckets a.blocks.items li (get nat_eq a.numbers)) (sym c.set.ensures)
+    (take-laid a.alive a.queues a.buckets a.blocks.items a.limits (get nat_eq a.numbers) c.self.invariant c.unlink.new.self c.take.new.buckets c.args.queue x at.here (record { list = c.unlink.ensures.list c.args.queue at.here; home = c.unlink.ensures.home; counts = c.unlink.ensures.counts; sound = c.unlink.ensures.sound }) (record { lists = c.take.ensures.lists; counts = c.take.ensures.counts; sound = c.take.ensures.sound }))
 
 pub returns-clause-waiter : goal.returns-clause-waiter
 returns-clause-waiter c =
     let a = c.self.inside in
     let x = c.in-Some.id.now in
     let at = placed-at _ _ _ _ _ _ c.self.invariant c.args.queue c.args.thread x (sym c.in-Some.ensures.value) (subst (λ (s : Slotted). 0 < times c.args.thread (threads_of (queue_at s c.args.queue))) (sym c.self.view_is) c.requires) in
-    let b = known (home_at a.buckets x) at.bucketed in
     ap (λ (s : Slotted). find (λ (w : Waiter). w.thread == c.args.thread) (queue_at s c.args.queue)) (sym c.self.view_is)
     ∙ ap (λ (n : ℕ). find (λ (w : Waiter). w.thread == n) (queue_at (slotted a.alive a.queues a.blocks.items) c.args.queue)) (sym at.number)
-    ∙ take-found a.alive a.queues a.buckets a.blocks.items a.limits (get nat_eq a.numbers) c.self.invariant c.unlink.new.self c.unlink-2.new.self c.args.queue b.0 x at.here b.1 (record { list = c.unlink.ensures.list c.args.queue at.here; home = c.unlink.ensures.home; counts = c.unlink.ensures.counts; sound = c.unlink.ensures.sound }) (record { list = c.unlink-2.ensures.list b.0 b.1; home = c.unlink-2.ensures.home; counts = c.unlink-2.ensures.counts; sound = c.unlink-2.ensures.sound })
+    ∙ take-found a.alive a.queues a.buckets a.blocks.items a.limits (get nat_eq a.numbers) c.self.invariant c.unlink.new.self c.take.new.buckets c.args.queue x at.here (record { list = c.unlink.ensures.list c.args.queue at.here; home = c.unlink.ensures.home; counts = c.unlink.ensures.counts; sound = c.unlink.ensures.sound }) (record { lists = c.take.ensures.lists; counts = c.take.ensures.counts; sound = c.take.ensures.sound })
     ∙ ap Some (get_or_default a.blocks.items x no_waiter c.index.result.now at.in_blocks ∙ sym c.index.ensures)
 
 pub returns-clause-rest : goal.returns-clause-rest
@@ -72,7 +70,6 @@ returns-clause-rest c =
     let a = c.self.inside in
     let x = c.in-Some.id.now in
     let at = placed-at _ _ _ _ _ _ c.self.invariant c.args.queue c.args.thread x (sym c.in-Some.ensures.value) (subst (λ (s : Slotted). 0 < times c.args.thread (threads_of (queue_at s c.args.queue))) (sym c.self.view_is) c.requires) in
-    let b = known (home_at a.buckets x) at.bucketed in
-    take-shown a.alive a.queues a.buckets a.blocks.items a.limits (get nat_eq a.numbers) c.self.invariant c.unlink.new.self c.unlink-2.new.self c.args.queue b.0 x at.here b.1 (record { list = c.unlink.ensures.list c.args.queue at.here; home = c.unlink.ensures.home; counts = c.unlink.ensures.counts; sound = c.unlink.ensures.sound }) (record { list = c.unlink-2.ensures.list b.0 b.1; home = c.unlink-2.ensures.home; counts = c.unlink-2.ensures.counts; sound = c.unlink-2.ensures.sound })
+    take-shown a.alive a.queues a.buckets a.blocks.items a.limits (get nat_eq a.numbers) c.self.invariant c.unlink.new.self c.take.new.buckets c.args.queue x at.here (record { list = c.unlink.ensures.list c.args.queue at.here; home = c.unlink.ensures.home; counts = c.unlink.ensures.counts; sound = c.unlink.ensures.sound }) (record { lists = c.take.ensures.lists; counts = c.take.ensures.counts; sound = c.take.ensures.sound })
     ∙ ap (λ (n : ℕ). taken_from (slotted a.alive a.queues a.blocks.items) c.args.queue n) at.number
     ∙ ap (λ (s : Slotted). taken_from s c.args.queue c.args.thread) c.self.view_is
