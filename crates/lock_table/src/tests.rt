@@ -6,7 +6,7 @@ use ids_base::numbers::{TableNo, ThreadNo};
 use std::process::Abort;
 use std::test::Fail;
 
-pub fn key(table: TableNo, number: u8) -> LockName {
+pub(crate) fn key(table: TableNo, number: u8) -> LockName {
     let mut bytes = [0; 32];
     bytes[3] = number;
     LockName {
@@ -15,7 +15,7 @@ pub fn key(table: TableNo, number: u8) -> LockName {
     }
 }
 
-pub fn ask(
+pub(crate) fn ask(
     rt: &impl Abort,
     locks: &mut Locks,
     thread: ThreadNo,
@@ -28,7 +28,7 @@ pub fn ask(
 }
 
 // The thread waits no more; tells whether it waited.
-pub fn stop_waiting(locks: &mut Locks, thread: ThreadNo) -> bool {
+pub(crate) fn stop_waiting(locks: &mut Locks, thread: ThreadNo) -> bool {
     match locks.waits_for(thread) {
         Some(_) => {
             locks.withdraw(thread);

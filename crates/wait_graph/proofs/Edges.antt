@@ -9,7 +9,7 @@ use Rattle.ids_base.specs.LockNames.{is_same_name}
 use Rattle.lock_table.specs.Table.{Table, line, holders, queue, has_thread, WaitsNowhere}
 use Rattle.lock_table.specs.Requests.{put_first, queued}
 use Rattle.lock_table.specs.Sound.{IsSound}
-use Rattle.wait_graph.specs.declared.next.Asked.{Asked}
+use Rattle.wait_graph.specs.declared.asked.Asked.{Asked}
 use Rattle.wait_graph.specs.Queued.{WaitsSomewhere, queue_with}
 use Rattle.ids_base.specs.Waits.{conflicts, WaitsFor, WaitInTurn}
 use Rattle.wait_graph.specs.Cycles.{IsCycle}

@@ -10,11 +10,11 @@ use Rattle.lock_table.specs.Chains.{is_named}
 use Rattle.lock_table.specs.Requests.{put_first}
 use Rattle.lock_table.specs.Sound.{IsSound}
 use Rattle.lock_table.specs.Table.{Table, is_of, has_thread, queue, WaitsAt, WaitsNowhere}
-use Rattle.wait_graph.specs.declared.next.Asked.{Asked}
+use Rattle.wait_graph.specs.declared.asked.Asked.{Asked}
 use Rattle.wait_graph.specs.Targets.{queue_at, name_waited}
 use Rattle.wait_graph.proofs.Trees.{or-right}
 
-names-told : NamesAreTold
+pub names-told : NamesAreTold
 names-told = λ a b. search rules
 
 pub not-equal : (a b : ℕ) → a ≢ b → (a == b) ≡ false

@@ -8,7 +8,7 @@ use Rattle.indexmap.specs.IndexSet.{insert_key}
 use Rattle.ids_base.specs.Waits.{WaitInTurn}
 use Rattle.wait_graph.specs.Cycles.{IsCycle, Once}
 use Rattle.wait_graph.specs.Targets.{among}
-use Rattle.wait_graph.specs.Search.{Waits, IsTree, IsClosedAt, IsLonger, AreAll}
+use Rattle.wait_graph.specs.Search.{Waits, IsTree, IsClosedAt, IsLonger}
 
 -- ---- places and membership
 pub among-cons : (b x : ℕ) (xs : List ℕ) → among b (x ∷ xs) ≡ true → (x ≡ b) ⊎ (among b xs ≡ true)
@@ -44,7 +44,7 @@ at-among [] j lt = absurd (omega arith)
 at-among (x ∷ xs) zero lt = among-first x xs
 at-among (x ∷ xs) (suc j) lt = among-later (slice_index xs j) x xs (at-among xs j (omega arith))
 
-eqb-either : (a b : ℕ) → (a == b) ≡ (b == a)
+pub eqb-either : (a b : ℕ) → (a == b) ≡ (b == a)
 eqb-either a b = elim (eqb_tells a b) as (λ v. (a == b) ≡ (b == a))
     [ inl t ↦ t.0 ∙ sym ((Decides-eqb b a).1 (sym t.1)) | inr f ↦ f.0 ∙ sym (ne_eqb b a (λ e. f.1 (sym e))) ]
 
@@ -179,19 +179,6 @@ longer-then a b c x y = record { length_grows = (let p = x.length_grows in let q
 pub among-longer : (b : ℕ) (old new : List ℕ) → IsLonger old new → among b old ≡ true → among b new ≡ true
 among-longer b old new l h = let p = among-place b old h in
     subst (λ n. among n new ≡ true) (l.same p.0 p.1 ∙ p.2) (at-among new p.0 (let q = p.1 in let g = l.length_grows in omega (arith, q, g)))
-
-pub all-more : (start b : ℕ) (old new next : List ℕ) (n : ℕ) → AreAll start old next n → IsLonger old new → slice_index next n ≡ b → b ≢ start → among b new ≡ true → AreAll start new next (n + 1)
-all-more start b old new next n a l e ne h j lt = elim (eqb_tells j n) as (λ v. (slice_index next j ≢ start) × (among (slice_index next j) new ≡ true)) [
-  | inl t ↦ (let f : slice_index next j ≡ b = ap (slice_index next) t.1 ∙ e in ((λ k. ne (sym f ∙ k)), subst (λ m. among m new ≡ true) (sym f) h))
-  | inr f ↦ (let g = f.1 in let o = a j (omega (arith, g, lt)) in (o.0, among-longer (slice_index next j) old new l o.1))
-]
-
-pub all-closed : (next : ℕ → List ℕ) (start : ℕ) (old new : List ℕ) (at : ℕ) (ts : List ℕ) → at < length old → IsLonger old new → ts ≡ next (slice_index old at) → AreAll start new ts (length ts) → IsClosedAt next start new at
-all-closed next start old new at ts lt l e a b w =
-    let m : among b ts ≡ true = ap (among b) e ∙ subst (λ n. Waits next n b) (l.same at lt) w in
-    let p = among-place b ts m in
-    let q = a p.0 p.1 in
-    ((λ k. q.0 (p.2 ∙ k)), subst (λ n. among n new ≡ true) p.2 q.1)
 
 pub closed-longer : (next : ℕ → List ℕ) (start : ℕ) (old new : List ℕ) (j : ℕ) → j < length old → IsLonger old new → IsClosedAt next start old j → IsClosedAt next start new j
 closed-longer next start old new j lt l c b w = let q = c b (subst (λ n. Waits next n b) (l.same j lt) w) in (q.0, among-longer b old new l q.1)

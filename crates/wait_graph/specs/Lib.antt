@@ -1,4 +1,5 @@
 pub mod Cycles
 pub mod Queued
+pub mod Reached
 pub mod Search
 pub mod Targets

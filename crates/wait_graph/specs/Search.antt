@@ -22,7 +22,3 @@ IsClosedAt next start found j = (b : ℕ) → Waits next (slice_index found j) b
 pub record IsLonger (old new : List ℕ) : Type 0 where
   pub length_grows : length old ≤ length new
   pub same : (j : ℕ) → j < length old → slice_index new j ≡ slice_index old j
-
--- the first n of these are found, and none is the start
-abbrev pub AreAll : ℕ → List ℕ → List ℕ → ℕ → Type 0
-AreAll start found next n = (j : ℕ) → j < n → (slice_index next j ≢ start) × (among (slice_index next j) found ≡ true)

@@ -7,7 +7,7 @@ use Rattle.ids_base.specs.declared.lock.LockEntry.{LockEntry}
 use Rattle.ids_base.specs.LockNames.{is_same_name}
 use Rattle.ids_base.specs.Waits.{conflicts}
 use Rattle.lock_table.specs.Table.{Table, is_of, holders, queue}
-use Rattle.wait_graph.specs.declared.next.Asked.{Asked}
+use Rattle.wait_graph.specs.declared.asked.Asked.{Asked}
 
 -- the threads of the entries that are against w
 abbrev pub against_of : LockEntry → List LockEntry → List ℕ

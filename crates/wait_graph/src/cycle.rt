@@ -3,7 +3,7 @@ ghost use Rattle.std.specs.Prelude.{◌≡◌, ℕ, IfOk, IfSome, Ok, None, List
 ghost use Rattle.lock_table.specs.Table.{WaitsNowhere};
 ghost use Rattle.wait_graph.specs.Queued.{ClosesCycle};
 
-use crate::next::Asked;
+use crate::asked::Asked;
 use crate::search::find_cycle;
 use ids_base::lock::{LockMode, LockName};
 use ids_base::numbers::ThreadNo;
@@ -13,9 +13,11 @@ use std::alloc::{AllocError, Global};
 /// The cycle of threads that the request would close if it waited, looked at as if it stood in its queue: it begins with the
 /// requester, each waits for the next and the last for the first. None exactly where waiting would close no cycle.
 ///
-/// It takes memory for the holders and waiters of one name at a time, and for the threads that the request waits for by any
-/// number of steps. It costs `Locks::queue_with`, and for each of these threads the entries that share the bucket of the name that
-/// it waits for, with at most two hash looks for each one that is against it.
+/// A name is reached where the request, or a thread that it waits for by any number of steps, waits for it. The call takes memory for
+/// the holders and waiters of the names reached, and for these threads. It costs `Locks::queue_with`; for each name reached the
+/// entries that share its bucket, once, a hash look for each waiter, and at most six passes over the holders and waiters, one for
+/// each mode, with at most two hash looks for each that does not go with the mode; one more such pass at the request's name; for
+/// each of these threads two look-ups; and the length of the cycle.
 pub fn closes_cycle(
     alloc: Global,
     locks: &Locks,

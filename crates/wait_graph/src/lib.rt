@@ -1,10 +1,10 @@
 //! Deadlocks: whether a request that waits would close a cycle of threads that wait for each other.
 #![tactic(auto)]
 
+mod asked;
 pub mod cycle;
-mod next;
+mod reached;
 mod search;
-mod targets;
 #[cfg(test)]
 mod tests;
 

@@ -1,7 +1,7 @@
 use Rattle.std.proofs.Common.{Result, Ok, Err, Option, Some, None, IfOk, IfSome, refl}
 use Rattle.lock_table.specs.Table.{line, holders}
 use Rattle.lock_table.specs.Requests.{wanted, is_overtaken}
-use Rattle.wait_graph.specs.declared.next.Asked.{Asked}
+use Rattle.wait_graph.specs.declared.asked.Asked.{Asked}
 use Rattle.wait_graph.specs.Queued.{WaitsSomewhere, queue_with}
 use Rattle.wait_graph.specs.Search.{Waits}
 use Rattle.wait_graph.specs.Targets.{next}
@@ -30,3 +30,6 @@ returns-clause-none c = λ e threads cycle.
     (cycle-mapped (WaitsSomewhere t (queue_with t w)) (Waits (next t asked))
     (λ a b x. edge-to t asked (is_overtaken (holders t c.args.name) c.args.thread) w c.queue_with.ensures.sound c.requires c.in_ok-queue.ensures.queue refl a b (from-asked t asked w refl c.in_ok-queue.ensures.queue a b x))
     c.args.thread threads cycle)
+
+pub find_cycle-requires : goal.find_cycle-requires
+find_cycle-requires c = record { sound = c.queue_with.ensures.sound; waits_nowhere = c.requires; mode = c.args.mode; queued = c.in_ok-queue.ensures.queue }

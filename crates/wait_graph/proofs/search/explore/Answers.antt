@@ -1,17 +1,7 @@
-use Rattle.std.proofs.Common.{◌∙◌, ℕ, List, ap, subst, OnOk, length, slice_index}
-use Rattle.wait_graph.specs.Search.{IsLonger, AreAll}
-use Rattle.wait_graph.specs.Targets.{next as next_of}
-use Rattle.wait_graph.proofs.Trees.{all-closed}
 use Rattle.wait_graph.proofs.search.explore.Goals as goal
 
-pub returns-clause-closed : goal.returns-clause-closed
-returns-clause-closed c = λ h.
-    let old = c.args.found.now.threads.keys in
-    let new = c.add_all.new.found.threads.keys in
-    let next = next_of c.args.locks.now c.args.asked.now in
-    let longer : IsLonger old new = subst (λ r. OnOk r (IsLonger old new)) h c.add_all.ensures.longer in
-    let all : AreAll c.args.asked.now.start new c.in_ok-next.next.items (length c.in_ok-next.next.items) =
-    subst (λ v. AreAll c.args.asked.now.start new v (length v)) c.as_slice-2.ensures.value (c.add_all.ensures.closed h) in
-    let e = c.in_ok-next.ensures in
-    let f = ap (λ (xs : List ℕ). next (slice_index xs c.args.at)) c.as_slice.ensures.keys in
-    all-closed next c.args.asked.now.start old new c.args.at c.in_ok-next.next.items c.requires.at longer (e ∙ f) all
+pub scan-requires-clause-scanned : goal.scan-requires-clause-scanned
+scan-requires-clause-scanned c = c.in_ok-spot.ensures.scanned c.args.asked.now.start c.args.found.now.threads.keys c.requires.scanned
+
+pub returns-in-None-clause-scanned : goal.returns-in-None-clause-scanned
+returns-in-None-clause-scanned c = λ h. c.in_ok-spot.ensures.scanned c.args.asked.now.start c.args.found.now.threads.keys c.requires.scanned

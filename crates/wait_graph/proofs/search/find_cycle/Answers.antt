@@ -25,6 +25,8 @@ loop-at-preserved c =
       most = c.in_ok-explore.ensures.most ∙ i.most;
       within = (let l = c.in_ok-explore.ensures.longer.length_grows in omega (arith, l, low));
       closed = closed-more next c.args.asked.now.start old new c.loop-at.at low c.in_ok-explore.ensures.longer i.closed (c.in_ok-explore.ensures.closed (ap Ok c.if-branch.false));
+      lines = c.in_ok-explore.ensures.lines;
+      scanned = c.in_ok-explore.ensures.scanned (ap Ok c.if-branch.false);
     }
 
 pub returns-clause-none : goal.returns-clause-none

@@ -1,5 +1,6 @@
 use Rattle.std.proofs.Common.{◌≡◌, ℕ, ◌<◌, ◌≤◌, ◌+◌, ◌-◌, length}
 use Rattle.wait_graph.specs.Targets.{next}
+use Rattle.wait_graph.specs.Reached.{HasLines, AreScanned}
 use Rattle.wait_graph.specs.Search.{IsTree, IsClosedAt}
 use Rattle.wait_graph.proofs.search.find_cycle.Given as goal
 
@@ -10,6 +11,8 @@ invariant-loop-at l = record {
   most : l.found.most ≡ l.initial.found.most;
   within : l.at ≤ length l.found.threads.keys;
   closed : (j : ℕ) → j < l.at → IsClosedAt (next l.locks l.asked) l.asked.start l.found.threads.keys j;
+  lines : HasLines (next l.locks l.asked) l.reached;
+  scanned : AreScanned l.asked.start l.found.threads.keys l.reached;
 }
 
 abbrev pub decreases-loop-at : goal.decreases-loop-at
