@@ -1,15 +1,15 @@
 -- What is known of kept pools, and what changes where one slot, its chain and a block change.
-use Rattle.std.proofs.Common.{◌≡◌, ◌≢◌, ◌⊎◌, ℕ, zero, suc, ◌+◌, ◌-◌, ◌*◌, ◌/◌, ◌^◌, ◌<◌, ◌≤◌, List, [], ◌∷◌, ◌++◌, length, get_or, take, drop, cond, ltb, map, refl, ap, sym, subst, ◌∙◌, arith, inl, inr, Option, Some, None, is_some, Bool, IsSome, length-append, length-drop, add-one, replicate}
+use Rattle.std.proofs.Common.{◌≡◌, ◌≢◌, ℕ, zero, suc, ◌+◌, ◌^◌, ◌<◌, ◌≤◌, List, [], ◌∷◌, length, get_or, take, drop, cond, ltb, refl, ap, sym, subst, ◌∙◌, arith, inl, inr, Option, Some, None, is_some, Bool, IsSome, length-drop, add-one, replicate}
 use Rattle.std.specs.List.{sum_by, flat_map, range_with_len, count_by}
 use Rattle.std.proofs.Math.ListN.{set, length-set}
-use Rattle.std.proofs.lemmas.List.{get_or-set_same, get_or-set_other, get_or-drop, get_or_past, get_or_default, nil_from_length, length-replicate, get_or-replicate}
+use Rattle.std.proofs.lemmas.List.{get_or-set_other, get_or-drop, get_or_past, nil_from_length, length-replicate, get_or-replicate}
 use Rattle.std.proofs.lemmas.List.Sums.{sum_by-cons, sum_by-drop_more}
 use Rattle.std.proofs.lemmas.Bool.{cases_lt, cases_eq}
 use Rattle.std.proofs.lemmas.Grind.{get_or-set_at}
 use Rattle.std.proofs.lemmas.Bool.Decides.{nat_tests}
 use Rattle.mem_pools.specs.Linked.{Linked, list_at, poured, all_free, times, EachOnce}
-use Rattle.mem_pools.specs.Pooled.{Pooled, Kept, pool_at, chain_in, bytes_in, blocks_in, blocks_for, all_blocks, unused, standing, IsOwned}
-use Rattle.mem_pools.specs.Slots.{block_at, content, pooled, pools_of, kept_of, slot_blocks, IsKept}
+use Rattle.mem_pools.specs.Pooled.{Pooled, Kept, pool_at, chain_in, all_blocks, unused, standing, IsOwned}
+use Rattle.mem_pools.specs.Slots.{content, pooled, pools_of, kept_of, slot_blocks, IsKept}
 use Rattle.mem_pools.specs.declared.pool_set.Slot.{Slot}
 use Rattle.mem_pools.proofs.Times.{times-append}
 use Rattle.mem_pools.proofs.Pouring.{length-poured, from-poured, to-poured, other-poured}
@@ -73,6 +73,14 @@ stands_lt b ss cl k i is v stands =
 pub pooled_none : (b : List (List ℕ)) (s : Option Slot) (c : List ℕ) → s ≡ None → pooled b s c ≡ None
 pooled_none b None c e = refl
 pooled_none b (Some s) c e = cc
+
+IsSome-pooled : (b : List (List ℕ)) (s : Option Slot) (c : List ℕ) → IsSome s → IsSome (pooled b s c)
+IsSome-pooled b None c h = cc
+IsSome-pooled b (Some s) c h = cc
+
+-- where a slot is taken, a pool stands
+pub taken_stands : (b : List (List ℕ)) (ss : List (Option Slot)) (cl : Linked) (k : Kept) (i : ℕ) → IsKept b ss cl → kept_of b ss cl ≡ k → i < length ss → IsSome (get_or ss i None) → IsSome (pool_at k i)
+taken_stands b ss cl k i is v h taken = subst IsSome (sym (seen_pool b ss cl k i None is v h)) (IsSome-pooled b _ _ taken)
 
 pub stands_not_none : (b : List (List ℕ)) (ss : List (Option Slot)) (cl : Linked) (k : Kept) (i : ℕ) (s : Option Slot) → IsKept b ss cl → kept_of b ss cl ≡ k → IsSome (pool_at k i) → s ≡ get_or ss i s → s ≡ None → ⊥
 stands_not_none b ss cl k i s is v stands read none =

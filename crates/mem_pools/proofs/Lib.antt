@@ -1,4 +1,5 @@
 pub mod Appending
+pub mod Counted
 pub mod Keeping
 pub mod Linking
 pub mod Made

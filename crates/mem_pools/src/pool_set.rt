@@ -1,5 +1,5 @@
 //! Pools of bytes in blocks of 2048, each with an owner.
-ghost use Rattle.std.specs.Prelude.{◌≡◌, ◌<◌, ◌≤◌, ◌+◌, ◌-◌, ◌++◌, ◌↔◌, ◌%◌, None, is_some, take, drop, length, IsErr, IsTrue, IsSome, IfOk, IfErr, OnOk, OnErr, slice_index_or};
+ghost use Rattle.std.specs.Prelude.{ℕ, ◌≡◌, ◌<◌, ◌≤◌, ◌+◌, ◌-◌, ◌++◌, ◌↔◌, ◌%◌, None, is_some, take, drop, length, IsErr, IsTrue, IsSome, IfOk, IfErr, OnOk, OnErr, slice_index_or};
 ghost use Rattle.std.specs.List.{count_by};
 ghost use Rattle.mem_pools.specs.Pooled.{pool_at, owner_of, chain_of, bytes_of, standing, blocks_for, unused, with_pool, wanted, appended, without_pool, IsOwned, HasBlocks};
 
@@ -152,6 +152,7 @@ impl Pools {
         ensures told { IfErr result (λ e. (e.wanted ≡ 1) × (e.free ≡ length self.old.free)) }
         ensures unchanged { OnErr result (self.new ≡ self.old) }
         ensures vacant { IfOk result (λ pool. (pool < length self.old.pools) × (pool_at self.old pool ≡ None)) }
+        ensures least { IfOk result (λ pool. (i : ℕ) → i < pool → IsSome (pool_at self.old i)) }
         ensures made { IfOk result (λ pool. self.new ≡ with_pool self.old pool owner) }
     {
         if self.free() < 1 {
@@ -265,6 +266,7 @@ fn vacant(slots: &[Option<Slot>]) -> usize
     requires { count_by (λ s. is_some s) slots.now < length slots.now }
     ensures in_range { result < length slots.now }
     ensures vacant { slice_index_or slots.now result None ≡ None }
+    ensures least { (i : ℕ) → i < result → IsSome (slice_index_or slots.now i None) }
 {
     for (i, slot) in slots.iter().enumerate() {
         if slot.is_none() {

@@ -1,9 +1,7 @@
-use Rattle.std.proofs.Common.{◌≡◌, ◌<◌, ◌∙◌, List, ℕ, Option, None, length, get_or, ap, sym, arith, drop, is_some}
-use Rattle.std.specs.List.{count_by}
+use Rattle.std.proofs.Common.{◌≡◌, ◌<◌, ◌∙◌, List, Option, None, IsSome, length, get_or, ap, sym, subst, arith, drop}
 use Rattle.mem_pools.specs.Pooled.{Kept, standing}
 use Rattle.mem_pools.specs.declared.pool_set.Slot.{Slot}
-use Rattle.mem_pools.specs.Slots.{pooled}
-use Rattle.mem_pools.proofs.Keeping.{standing-pools_of, seen_len, seen_pool, pooled_none, chains_count}
+use Rattle.mem_pools.proofs.Keeping.{standing-pools_of, seen_len, seen_pool, pooled_none, taken_stands, chains_count}
 use Rattle.mem_pools.proofs.Steps.{made}
 use Rattle.mem_pools.proofs.pool_set.Pools.new_pool.Goals as goal
 
@@ -31,6 +29,12 @@ returns-clause-vacant c =
     let there : i < length v.slots.items = omega (arith, ap length c.deref.ensures.value, c.vacant-pool.ensures.in_range) in
     let len = seen_len v.blocks.items v.slots.items v.chains c.args.self.now c.self.invariant c.self.view_is in
     (omega (arith, len, there), seen_pool v.blocks.items v.slots.items v.chains c.args.self.now i None c.self.invariant c.self.view_is there ∙ pooled_none v.blocks.items _ _ none)
+
+pub returns-clause-least : goal.returns-clause-least
+returns-clause-least c =
+    let v = c.self.inside in
+    let len = ap length c.deref.ensures.value in
+    λ i h. taken_stands v.blocks.items v.slots.items v.chains c.args.self.now i c.self.invariant c.self.view_is (omega (arith, len, h, c.vacant-pool.ensures.in_range)) (subst (λ (l : List (Option Slot)). IsSome (get_or l i None)) c.deref.ensures.value (c.vacant-pool.ensures.least i h))
 
 pub returns-clause-made : goal.returns-clause-made
 returns-clause-made c =
