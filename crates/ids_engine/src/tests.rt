@@ -412,7 +412,7 @@ fn opened_with<D: Disk>(
     Ok(())
 }
 
-// Whether row 7 of table t is found on the disk.
+// Whether table t has a row with key 7 on the disk.
 fn finds_row<D: Disk>(alloc: Global, disk: &mut D) -> Result<bool, Fail> {
     let Ok(store) = Store::from_disk(alloc, disk) else {
         return Err("not opened".into());
