@@ -1,0 +1,284 @@
+-- What stays known of the slots of pages where entries change.
+use Rattle.std.proofs.Common.{◌≡◌, ◌≢◌, ℕ, ◌-◌, ◌≤◌, ◌<◌, Bool, true, false, ◌&&◌, ◌||◌, refl, ap, sym, ◌∙◌, List, [], ◌∷◌, ◌++◌, length, max, cond, if◌then◌else◌, ◌⊎◌, inl, inr, arith}
+use Rattle.std.specs.List.{filter, list_any}
+use Rattle.std.proofs.lemmas.Bool.{cases_Bool, eqb-true, eq-eqb, ne_eqb, cases_eq, cases_lt, lt-leb, le-leb}
+use Rattle.std.proofs.lemmas.List.{get_or-set_same, get_or-set_other}
+use Rattle.std.proofs.Math.ListN.{set, length-set}
+use Rattle.ids_base.specs.RowIds.{row_number}
+use Rattle.ids_base.specs.declared.lock.Key.{Key}
+use Rattle.ids_base.specs.LockNames.{is_same_key}
+use Rattle.table_space.specs.declared.front.Front.{Front}
+use Rattle.table_space.specs.declared.entry.Entry.{Entry}
+use Rattle.table_space.specs.declared.entry.Held.{Held}
+use Rattle.table_space.specs.declared.entry.Held.TheVariants.{Nowhere, Emptied, Filled}
+use Rattle.table_space.specs.Entries.{is_in, is_at, is_nowhere, is_filled, is_gone_from, has_row, is_new, fills, stays, blocks}
+use Rattle.table_space.specs.Noted.{put_first, changed, noted, made, has_entry_for}
+use Rattle.table_space.specs.Seen.{Entries, Changes, Ends, IsBlocked, IsSame}
+use Rattle.table_space.specs.Fronts.{IsFilled, HasNoEntry, AreFilled, IsFront, AreFronts, lowered}
+use Rattle.table_space.proofs.Keys.{keys_told, key_itself}
+
+-- Of entries that are replaced.
+pub put-none : (p test : Entry → Bool) (new : Entry) → p new ≡ false → (es : List Entry) → list_any p es ≡ false → list_any p (put_first test new es) ≡ false
+put-none p test new not_new [] none = none
+put-none p test new not_new (e ∷ es) none = at (test e) (p e) refl none (put-none p test new not_new es)
+  where
+    at : (b c : Bool) → p e ≡ c → (c || list_any p es) ≡ false → (list_any p es ≡ false → list_any p (put_first test new es) ≡ false) → list_any p (if b then new ∷ es else e ∷ put_first test new es) ≡ false
+    at b true is h more = cc
+    at true false is h more = rw not_new h
+    at false false is h more = rw is (more h)
+
+pub put-keeps : (p test : Entry → Bool) (new : Entry) → ((e : Entry) → p e ≡ true → test e ≡ false) → (es : List Entry) → list_any p es ≡ true → list_any p (put_first test new es) ≡ true
+put-keeps p test new apart [] some = some
+put-keeps p test new apart (e ∷ es) some = at (test e) (p e) refl refl some (put-keeps p test new apart es)
+  where
+    or_right : (a b : Bool) → b ≡ true → (a || b) ≡ true
+    or_right true b e = refl
+    or_right false b e = e
+
+    at : (b c : Bool) → test e ≡ b → p e ≡ c → (c || list_any p es) ≡ true → (list_any p es ≡ true → list_any p (put_first test new es) ≡ true) → list_any p (if b then new ∷ es else e ∷ put_first test new es) ≡ true
+    at true true t is h more = absurd (let clash : true ≡ false = sym t ∙ apart e is in cc)
+    at true false t is h more = or_right (p new) _ h
+    at false true t is h more = rw is refl
+    at false false t is h more = rw is (more h)
+
+pub put-here : (p test : Entry → Bool) (new : Entry) → p new ≡ true → (es : List Entry) → list_any test es ≡ true → list_any p (put_first test new es) ≡ true
+put-here p test new is_new' [] some = absurd (cc)
+put-here p test new is_new' (e ∷ es) some = at (test e) some (put-here p test new is_new' es)
+  where
+    or_right : (a b : Bool) → b ≡ true → (a || b) ≡ true
+    or_right true b e = refl
+    or_right false b e = e
+
+    at : (b : Bool) → (b || list_any test es) ≡ true → (list_any test es ≡ true → list_any p (put_first test new es) ≡ true) → list_any p (if b then new ∷ es else e ∷ put_first test new es) ≡ true
+    at true h more = rw is_new' refl
+    at false h more = or_right (p e) _ (more h)
+
+-- What the tests of an entry tell of one another.
+fills-held : (row other : ℕ) → other ≢ row → (h : Held) → is_in other h ≡ true → is_at row h ≡ false
+fills-held row other ne Nowhere is = refl
+fills-held row other ne (Emptied held) is = absurd (cc)
+fills-held row other ne (Filled held) is = ne_eqb held row (λ e. ne (sym (eqb-true held other is) ∙ e))
+
+fills-not_new : (row : ℕ) (h : Held) → is_in row h ≡ true → is_nowhere h ≡ false
+fills-not_new row Nowhere is = absurd (cc)
+fills-not_new row (Emptied held) is = refl
+fills-not_new row (Filled held) is = refl
+
+fills-stays : (row : ℕ) (h : Held) (b : Bool) → is_in row h ≡ true → (is_filled h || b) ≡ true
+fills-stays row Nowhere b is = absurd (cc)
+fills-stays row (Emptied held) b is = absurd (cc)
+fills-stays row (Filled held) b is = refl
+
+fills-blocks : (row : ℕ) (h : Held) (b : Bool) → is_in row h ≡ true → (is_in row h || b) ≡ true
+fills-blocks row h b is = rw is refl
+
+no_row-blocks : (row : ℕ) (h : Held) (b : Bool) → is_at row h ≡ false → (is_in row h || (is_gone_from row h && b)) ≡ false
+no_row-blocks row Nowhere b none = refl
+no_row-blocks row (Emptied held) b none = rw none refl
+no_row-blocks row (Filled held) b none = rw none refl
+
+changed-other : (row other : ℕ) (filled : Bool) (tx : ℕ) → other ≢ row → has_row other (changed row filled tx) ≡ false
+changed-other row other true tx ne = ne_eqb row other (λ e. ne (sym e))
+changed-other row other false tx ne = ne_eqb row other (λ e. ne (sym e))
+
+any-along : (p q : Entry → Bool) → ((e : Entry) → p e ≡ true → q e ≡ true) → (es : List Entry) → list_any p es ≡ true → list_any q es ≡ true
+any-along p q more [] some = some
+any-along p q more (e ∷ es) some = at (p e) (q e) refl refl some (any-along p q more es)
+  where
+    at : (b c : Bool) → p e ≡ b → q e ≡ c → (b || list_any p es) ≡ true → (list_any p es ≡ true → list_any q es ≡ true) → (c || list_any q es) ≡ true
+    at b true pe qe h f = refl
+    at true false pe qe h f = absurd (let clash : true ≡ false = sym (more e pe) ∙ qe in cc)
+    at false false pe qe h f = f h
+
+none-along : (p q : Entry → Bool) → ((e : Entry) → p e ≡ false → q e ≡ false) → (es : List Entry) → list_any p es ≡ false → list_any q es ≡ false
+none-along p q less [] none = none
+none-along p q less (e ∷ es) none = at (p e) refl none (none-along p q less es)
+  where
+    at : (b : Bool) → p e ≡ b → (b || list_any p es) ≡ false → (list_any p es ≡ false → list_any q es ≡ false) → (q e || list_any q es) ≡ false
+    at true pe h f = absurd (cc)
+    at false pe h f = rw (less e pe) (f h)
+
+any-filtered : (p test : Entry → Bool) → ((e : Entry) → p e ≡ true → test e ≡ true) → (es : List Entry) → list_any p es ≡ true → list_any p (filter test es) ≡ true
+any-filtered p test stay [] some = some
+any-filtered p test stay (e ∷ es) some = at (p e) (test e) refl refl some (any-filtered p test stay es)
+  where
+    at : (b c : Bool) → p e ≡ b → test e ≡ c → (b || list_any p es) ≡ true → (list_any p es ≡ true → list_any p (filter test es) ≡ true) → list_any p (cond c (e ∷ filter test es) (filter test es)) ≡ true
+    at true true pe te h f = rw pe refl
+    at true false pe te h f = absurd (let clash : true ≡ false = sym (stay e pe) ∙ te in cc)
+    at false true pe te h f = rw pe (f h)
+    at false false pe te h f = f h
+
+none-filtered : (p test : Entry → Bool) (es : List Entry) → list_any p es ≡ false → list_any p (filter test es) ≡ false
+none-filtered p test [] none = none
+none-filtered p test (e ∷ es) none = at (p e) (test e) refl none (none-filtered p test es)
+  where
+    at : (b c : Bool) → p e ≡ b → (b || list_any p es) ≡ false → (list_any p es ≡ false → list_any p (filter test es) ≡ false) → list_any p (cond c (e ∷ filter test es) (filter test es)) ≡ false
+    at true c pe h f = absurd (cc)
+    at false true pe h f = rw pe (f h)
+    at false false pe h f = f h
+
+any-pushed : (p : Entry → Bool) (new : Entry) (es : List Entry) → list_any p es ≡ true → list_any p (es ++ new ∷ []) ≡ true
+any-pushed p new [] some = absurd (cc)
+any-pushed p new (e ∷ es) some = at (p e) some (any-pushed p new es)
+  where
+    at : (b : Bool) → (b || list_any p es) ≡ true → (list_any p es ≡ true → list_any p (es ++ new ∷ []) ≡ true) → (b || list_any p (es ++ new ∷ [])) ≡ true
+    at true h f = refl
+    at false h f = f h
+
+none-pushed : (p : Entry → Bool) (new : Entry) → p new ≡ false → (es : List Entry) → list_any p es ≡ false → list_any p (es ++ new ∷ []) ≡ false
+none-pushed p new not_new [] none = rw not_new refl
+none-pushed p new not_new (e ∷ es) none = at (p e) none (none-pushed p new not_new es)
+  where
+    at : (b : Bool) → (b || list_any p es) ≡ false → (list_any p es ≡ false → list_any p (es ++ new ∷ []) ≡ false) → (b || list_any p (es ++ new ∷ [])) ≡ false
+    at true h f = absurd (cc)
+    at false h f = f h
+
+-- Of the entries of a key that are noted.
+noted-none : (row other : ℕ) (filled : Bool) (tx : ℕ) (es : List Entry) → other ≢ row → list_any (has_row other) es ≡ false → list_any (has_row other) (noted row filled tx es) ≡ false
+noted-none row other filled tx es ne none = put-none (has_row other) _ (changed row filled tx) (changed-other row other filled tx ne) es none
+
+noted-keeps : (row other : ℕ) (filled : Bool) (tx : ℕ) (es : List Entry) → other ≢ row → list_any (fills other) es ≡ true → list_any (fills other) (noted row filled tx es) ≡ true
+noted-keeps row other filled tx es ne some = at (list_any (has_row row) es)
+  where
+    at : (b : Bool) → list_any (fills other) (put_first (if b then has_row row else is_new) (changed row filled tx) es) ≡ true
+    at true = put-keeps (fills other) (has_row row) (changed row filled tx) (λ e is. fills-held row other ne e.held is) es some
+    at false = put-keeps (fills other) is_new (changed row filled tx) (λ e is. fills-not_new other e.held is) es some
+
+noted-fills : (row tx : ℕ) (es : List Entry) → has_entry_for row true es ≡ true → list_any (fills row) (noted row true tx es) ≡ true
+noted-fills row tx es some = at (list_any (has_row row) es) refl some
+  where
+    itself : fills row (changed row true tx) ≡ true
+    itself = eq-eqb row row refl
+
+    at : (b : Bool) → list_any (has_row row) es ≡ b → (b || (true && list_any is_new es)) ≡ true → list_any (fills row) (put_first (if b then has_row row else is_new) (changed row true tx) es) ≡ true
+    at true is h = put-here (fills row) (has_row row) (changed row true tx) itself es is
+    at false is h = put-here (fills row) is_new (changed row true tx) itself es h
+
+-- A key is the one that changed, or has its entries.
+either : {was now : Entries} {t : ℕ} {k : Key} {es : List Entry} → Changes was now t k es → (t' : ℕ) (k' : Key) → ((now t' k' ≡ es) × (was t' k' ≡ was t k)) ⊎ (now t' k' ≡ was t' k')
+either {was = was} {now = now} {t = t} {k = k} {es = es} c t' k' = elim (cases_eq t' t) [
+  | inr other ↦ inr (c.beside t' k' (λ p. other p.0))
+  | inl same ↦ elim (cases_Bool (is_same_key k' k)) [
+    | inl told ↦ let key : k' ≡ k = keys_told k' k told in
+        inl ((λ i. now (same i) (key i)) ∙ c.here, (λ i. was (same i) (key i)))
+    | inr differs ↦ inr (c.beside t' k' (λ p. (let clash : true ≡ false = sym (ap (λ x. is_same_key x k) p.1 ∙ key_itself k) ∙ differs in cc)))
+  ]
+]
+
+-- Whether a slot is filled or has no entry stays, where entries change.
+pub record Stays (was now : Entries) (row : ℕ) : Type 0 where
+  pub filled : IsFilled was row → IsFilled now row
+  pub none : HasNoEntry was row → HasNoEntry now row
+
+pub noted-stays : {was now : Entries} {t : ℕ} {k : Key} (row : ℕ) (filled : Bool) (tx : ℕ) → Changes was now t k (noted row filled tx (was t k)) → (other : ℕ) → other ≢ row → Stays was now other
+noted-stays {was = was} {now = now} {t = t} {k = k} row filled tx c other ne = record {
+  filled = λ f. record {
+    table = f.table;
+    key = f.key;
+    by = elim (either c f.table f.key) [
+      | inl e ↦ rw e.0 (noted-keeps row other filled tx (was t k) ne (ap (list_any (fills other)) (sym e.1) ∙ f.by))
+      | inr e ↦ rw e f.by
+    ];
+  };
+  none = λ f t' k'. elim (either c t' k') [
+    | inl e ↦ rw e.0 (noted-none row other filled tx (was t k) ne (f t k))
+    | inr e ↦ rw e (f t' k')
+  ];
+}
+
+pub noted-filled : {was now : Entries} {t : ℕ} {k : Key} (row tx : ℕ) → Changes was now t k (noted row true tx (was t k)) → has_entry_for row true (was t k) ≡ true → IsFilled now row
+noted-filled {was = was} {t = t} {k = k} row tx c some = record { table = t; key = k; by = rw c.here (noted-fills row tx (was t k) some) }
+
+pub entered-stays : {was now : Entries} {t : ℕ} {k : Key} (tx : ℕ) → Changes was now t k (was t k ++ made tx ∷ []) → (row : ℕ) → Stays was now row
+entered-stays {was = was} {t = t} {k = k} tx c row = record {
+  filled = λ f. record {
+    table = f.table;
+    key = f.key;
+    by = elim (either c f.table f.key) [
+      | inl e ↦ rw e.0 (any-pushed (fills row) (made tx) (was t k) (ap (list_any (fills row)) (sym e.1) ∙ f.by))
+      | inr e ↦ rw e f.by
+    ];
+  };
+  none = λ f t' k'. elim (either c t' k') [
+    | inl e ↦ rw e.0 (none-pushed (has_row row) (made tx) refl (was t k) (f t k))
+    | inr e ↦ rw e (f t' k')
+  ];
+}
+
+pub same-stays : {was now : Entries} → IsSame was now → (row : ℕ) → Stays was now row
+same-stays same row = record {
+  filled = λ f. record { table = f.table; key = f.key; by = rw (same f.table f.key) f.by };
+  none = λ f t k. rw (same t k) (f t k);
+}
+
+pub ended-stays : {was now : Entries} (tx : ℕ) → Ends was now tx → (row : ℕ) → Stays was now row
+ended-stays {was = was} tx ends row = record {
+  filled = λ f. record { table = f.table; key = f.key; by = rw (ends f.table f.key) (any-filtered (fills row) (stays tx) (λ e is. fills-stays row e.held _ is) (was f.table f.key) f.by) };
+  none = λ f t k. rw (ends t k) (none-filtered (has_row row) (stays tx) (was t k) (f t k));
+}
+
+-- What is known of pages stays with it.
+pub fronts-stay : {was now : Entries} (fs : List Front) → ((row : ℕ) → Stays was now row) → AreFronts was fs → AreFronts now fs
+fronts-stay fs stay known = λ page d low high. let f = known page d low high in record {
+  filled = λ slot some last small. (stay (row_number page slot)).filled (f.filled slot some last small);
+  used = λ slot above small. (stay (row_number page slot)).none (f.used slot above small);
+}
+
+-- The slots of a page where one of them was noted.
+pub page-noted : {was now : Entries} (page slot : ℕ) (f new : Front) → slot < 256 → ((other : ℕ) → other ≢ row_number page slot → Stays was now other) → IsFront was page f → AreFilled now page new.filled → new.used ≡ max f.used slot → IsFront now page new
+page-noted page slot f new small stay known filled used = record {
+  filled = filled;
+  used = λ s above fits. let ne : row_number page s ≢ row_number page slot = omega arith in (stay (row_number page s) ne).none (known.used s (omega arith) fits);
+}
+
+pub page-lowered : {was now : Entries} (page slot : ℕ) (f : Front) → slot < 256 → ((other : ℕ) → other ≢ row_number page slot → Stays was now other) → IsFront was page f → AreFilled now page (lowered f.filled slot)
+page-lowered {now = now} page slot f small stay known = λ s some last fits. at (cases_lt f.filled slot) s some last fits
+  where
+    at : ((f.filled < slot) ⊎ (slot ≤ f.filled)) → (s : ℕ) → 1 ≤ s → s ≤ lowered f.filled slot → s < 256 → IsFilled now (row_number page s)
+    at (inl above) s some last fits =
+        let is : lowered f.filled slot ≡ f.filled = rw (lt-leb slot f.filled above) refl in
+        let ne : row_number page s ≢ row_number page slot = omega (arith, is) in
+        (stay (row_number page s) ne).filled (known.filled s some (omega (arith, is)) fits)
+    at (inr within) s some last fits =
+        let is : lowered f.filled slot ≡ slot - 1 = rw (le-leb slot f.filled within) refl in
+        let ne : row_number page s ≢ row_number page slot = omega (arith, is) in
+        (stay (row_number page s) ne).filled (known.filled s some (omega (arith, is)) fits)
+
+-- those that were filled are so, where one of them was filled
+pub page-kept : {was now : Entries} (page slot : ℕ) (f : Front) → slot < 256 → ((other : ℕ) → other ≢ row_number page slot → Stays was now other) → IsFront was page f → IsFilled now (row_number page slot) → AreFilled now page f.filled
+page-kept page slot f small stay known here = λ s some last fits. elim (cases_eq s slot) [
+  | inl same ↦ rw same here
+  | inr other ↦ let ne : row_number page s ≢ row_number page slot = omega arith in (stay (row_number page s) ne).filled (known.filled s some last fits)
+]
+
+-- all pages, where a slot of one of them was noted
+pub fronts-noted : {was now : Entries} (fs : List Front) (page slot : ℕ) (new : Front) → 1 ≤ page → page ≤ length fs → slot < 256 → ((other : ℕ) → other ≢ row_number page slot → Stays was now other) → AreFronts was fs → IsFront now page new → AreFronts now (set fs (page - 1) new)
+fronts-noted fs page slot new low high small stay known here = λ p d first last. elim (cases_eq p page) [
+  | inl same ↦
+      let lt : page - 1 < length fs = omega arith in
+      rw (same, get_or-set_same) here
+  | inr other ↦
+      let apart : p - 1 ≢ page - 1 = omega arith in
+      let within : p ≤ length fs = omega (arith, last, length-set fs (page - 1) new) in
+      let f = known p d first within in
+      rw get_or-set_other (record {
+        filled = λ s some top fits. let ne : row_number p s ≢ row_number page slot = omega arith in (stay (row_number p s) ne).filled (f.filled s some top fits);
+        used = λ s above fits. let ne : row_number p s ≢ row_number page slot = omega arith in (stay (row_number p s) ne).none (f.used s above fits);
+      })
+]
+
+-- A slot that is filled is blocked, and one without an entry is not.
+pub filled-blocked : {entries : Entries} (row tx : ℕ) → IsFilled entries row → IsBlocked entries row tx
+filled-blocked {entries = entries} row tx f = record { table = f.table; key = f.key; by = any-along (fills row) (blocks row tx) (λ e is. fills-blocks row e.held _ is) (entries f.table f.key) f.by }
+
+pub unused-free : {entries : Entries} (row tx : ℕ) → HasNoEntry entries row → IsBlocked entries row tx → ⊥
+unused-free {entries = entries} row tx none b = let not_blocked : list_any (blocks row tx) (entries b.table b.key) ≡ false = none-along (has_row row) (blocks row tx) (λ e is. no_row-blocks row e.held _ is) (entries b.table b.key) (none b.table b.key) in
+    let clash : true ≡ false = sym b.by ∙ not_blocked in cc
+
+-- A ledger's note, at the number of its row.
+module _ {was now : Entries} {t : ℕ} {k : Key} (page slot number : ℕ) (is : number ≡ row_number page slot) (tx : ℕ) where
+  pub row-stays : (filled : Bool) → Changes was now t k (noted number filled tx (was t k)) → (other : ℕ) → other ≢ row_number page slot → Stays was now other
+  row-stays filled c other ne = noted-stays number filled tx c other (λ e. ne (e ∙ is))
+
+  pub row-filled : (filled : Bool) → filled ≡ true → Changes was now t k (noted number filled tx (was t k)) → has_entry_for (row_number page slot) filled (was t k) ≡ true → IsFilled now (row_number page slot)
+  row-filled filled on c some = rw (← is) (noted-filled number tx (rw on at c) (rw (on, ← is) at some))

@@ -1,0 +1,12 @@
+pub mod Catalogue
+pub mod Directory
+pub mod Entries
+pub mod Fronts
+pub mod Kept
+pub mod Least
+pub mod Lines
+pub mod Noted
+pub mod Owners
+pub mod Places
+pub mod Seen
+pub mod Space

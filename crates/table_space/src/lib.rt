@@ -1,0 +1,19 @@
+//! The names and shapes of tables, the directory of keys, and which slots are free or reserved.
+//!
+//! Knows no disk and no bytes of pages. Read `entry`, `catalogue`, `directory`, `owners` and `ledger`; then `space` and `places`.
+#![tactic(auto)]
+
+pub mod catalogue;
+pub mod directory;
+pub mod entry;
+mod front;
+mod ledger;
+mod lengths;
+pub mod owners;
+mod places;
+pub mod space;
+#[cfg(test)]
+mod tests;
+
+pub use catalogue::catalogue_key;
+pub use space::{NoSpace, TableSpace};

@@ -1,0 +1,203 @@
+//! The tables, their keys, and their places.
+ghost use Rattle.std.specs.Prelude.{◌≡◌, ◌≤◌, ◌<◌, ◌+◌, ◌-◌, ◌^◌, ◌∷◌, ◌++◌, [], ◌↔◌, ◌&&◌, ℕ, true, option_copied, IsTrue, IfOk, OnOk, OnErr, MatchOption, slice_set, None, Some, if◌then◌else◌};
+ghost use Rattle.ids_base.specs.RowIds.{row_number};
+ghost use Rattle.table_space.specs.Catalogue.{catalogue_key_of};
+ghost use Rattle.table_space.specs.Noted.{row_of, made, noted, has_entry_for, is_alone};
+ghost use Rattle.table_space.specs.Least.{is_below, lesser};
+ghost use Rattle.table_space.specs.Seen.{Changes, IsSame, Ends};
+ghost use Rattle.table_space.specs.Space.{entries_of, owners_of, pages_of, table_at, shape_in, is_there, IsUnused, Names, IsNamed, IsLeastNamed, IsSameTables};
+
+use crate::catalogue::{CATALOGUE, catalogue_key};
+use crate::ledger::Ledger;
+use ids_base::lock::Key;
+use ids_base::memory::Memory;
+use ids_base::name::Name;
+use ids_base::numbers::{TableNo, TxNo};
+use ids_base::row_id::RowId;
+use ids_base::shape::Shape;
+use indexmap::IndexMap;
+use std::alloc::Global;
+use thiserror::Error;
+
+/// No slot is left for a row of a table, and no page without an owner: the slots and the pages that the table owns.
+#[derive(Clone, Copy, Debug, PartialEq, Eq, Drop, Error)]
+#[error("no space left")]
+pub struct NoSpace {
+    pub rows: u64,
+    pub pages: u64,
+}
+
+/// The name and the shape of a table.
+#[derive(Drop)]
+pub struct Table {
+    pub name: Name,
+    pub shape: Shape,
+}
+
+/// The tables, the directory of their keys, and the owners of the data pages.
+#[derive(Drop)]
+pub struct TableSpace {
+    pub(crate) ledger: Ledger,
+    tables: IndexMap<TableNo, Table>,
+    alloc: Global,
+}
+
+impl TableSpace {
+    /// Data pages from 1 to `pages`, none with an owner, and no table but the catalogue, table 1. Answers `Memory` only for want of
+    /// memory, which it takes in proportion to the pages.
+    pub fn new(alloc: Global, pages: u32) -> Result<TableSpace, Memory>
+        requires { pages < 2 ^ 24 }
+        ensures { IfOk result (λ space. IsUnused space pages) }
+    {
+        Ok(TableSpace {
+            ledger: Ledger::new(alloc, pages)?,
+            tables: IndexMap::new(alloc),
+            alloc,
+        })
+    }
+
+    /// How many data pages there are. Constant time.
+    pub fn pages(&self) -> u32
+        ensures pages { result ≡ pages_of self.now }
+        ensures few { result < 2 ^ 24 }
+    {
+        self.ledger.owners().pages()
+    }
+
+    /// The row id of the key's filled entry; `None` exactly where it has none. Linear in the entries.
+    pub fn find(&self, table: TableNo, key: &Key) -> Option<RowId>
+        ensures { MatchOption result (row_of (entries_of self.now table key.now) ≡ None) (λ row. row_of (entries_of self.now table key.now) ≡ Some (row_number row.page row.slot)) }
+    {
+        match self.ledger.directory().row_of(table, key) {
+            None => None,
+            Some(number) => Some(RowId::from_number(number)),
+        }
+    }
+
+    /// The table of this name that is there, the least number where there are several; `None` exactly where none is there. Linear in the
+    /// tables of that name and the entries.
+    pub fn table_named(&self, name: &Name) -> Option<TableNo>
+        ensures { MatchOption result ((t : ℕ) → ¬ IsNamed self.now name.now t) (IsLeastNamed self.now name.now) }
+    {
+        let mut least = None;
+        for (number, table) in self.tables.iter() {
+            least = self.lesser(*number, &table.name, name, least);
+        }
+        least
+    }
+
+    // The table where it has this name, is there, and its number is less than another, if there is one; else that one.
+    fn lesser(
+        &self,
+        number: TableNo,
+        named: &Name,
+        name: &Name,
+        least: Option<TableNo>,
+    ) -> Option<TableNo>
+        ensures { result ≡ lesser (is_there self.now) name.now least number named.now }
+    {
+        if *named == *name && is_below(number, least) && self.is_there(number) {
+            Some(number)
+        } else {
+            least
+        }
+    }
+
+    // Whether a table's row in the catalogue is filled.
+    fn is_there(&self, table: TableNo) -> bool
+        ensures { result ≡ is_there self.now table }
+    {
+        self.find(CATALOGUE, &catalogue_key(table)).is_some()
+    }
+
+    /// The shape that a table was entered with, if it was. Constant time.
+    pub fn shape_of(&self, table: TableNo) -> Option<&Shape>
+        ensures { option_copied result ≡ shape_in (table_at self.now table) }
+    {
+        match self.tables.get(&table) {
+            None => None,
+            Some(table) => Some(&table.shape),
+        }
+    }
+
+    /// Whether `note` may be called: the key has an entry with this row id or, where it is filled, one without a row id, and no other
+    /// entry of the key is filled. Linear in the entries.
+    pub fn may_note(&self, table: TableNo, row: RowId, key: &Key, filled: bool) -> bool
+        ensures { result ≡ (has_entry_for (row_number row.page row.slot) filled (entries_of self.now table key.now) && is_alone (row_number row.page row.slot) (entries_of self.now table key.now)) }
+    {
+        let number = row.number();
+        let directory = self.ledger.directory();
+        directory.has_entry_for(table, key, number, filled)
+            && directory.is_alone(table, key, number)
+    }
+
+    /// Keeps the name and the shape of a table, and makes an entry for its number in the catalogue, empty and without a row id.
+    /// Answers `Memory` only for want of memory, and all is as it was then. Amortised constant time, and a copy of the name.
+    pub fn enter_table(
+        &mut self,
+        table: TableNo,
+        name: &Name,
+        shape: &Shape,
+        tx: TxNo,
+    ) -> Result<(), Memory>
+        ensures entered { OnOk result (Changes (entries_of self.old) (entries_of self.new) 1 (catalogue_key_of table) (entries_of self.old 1 (catalogue_key_of table) ++ made tx ∷ [])) }
+        ensures named { OnOk result (Names self.old self.new table name.now shape.now) }
+        ensures owners { owners_of self.new ≡ owners_of self.old }
+        ensures err { OnErr result (IsSame (entries_of self.old) (entries_of self.new)) }
+        ensures same_tables { OnErr result (IsSameTables self.old self.new) }
+    {
+        let kept = Table {
+            name: name.copy(),
+            shape: shape.copy(self.alloc)?,
+        };
+        self.tables.reserve(1)?;
+        self.ledger.enter(CATALOGUE, &catalogue_key(table), tx)?;
+        self.tables.insert(table, kept)?;
+        Ok(())
+    }
+
+    /// Makes an entry of the key, empty and without a row id. Answers `Memory` only for want of memory, and all is as it was then.
+    /// Amortised constant time.
+    pub fn enter_key(&mut self, table: TableNo, key: &Key, tx: TxNo) -> Result<(), Memory>
+        ensures entered { OnOk result (Changes (entries_of self.old) (entries_of self.new) table key.now (entries_of self.old table key.now ++ made tx ∷ [])) }
+        ensures owners { owners_of self.new ≡ owners_of self.old }
+        ensures tables { IsSameTables self.old self.new }
+        ensures err { OnErr result (IsSame (entries_of self.old) (entries_of self.new)) }
+    {
+        self.ledger.enter(table, key, tx)
+    }
+
+    /// Fills or empties the key's entry with this row id, else fills one without a row id and gives it this one; the row's page is the
+    /// table's. Linear in the entries, and once more for each slot behind the row's that is filled again with it; takes no memory.
+    pub fn note(&mut self, table: TableNo, row: RowId, key: &Key, filled: bool, tx: TxNo)
+        requires found { has_entry_for (row_number row.page row.slot) filled (entries_of self.old table key.now) ≡ true }
+        requires alone { is_alone (row_number row.page row.slot) (entries_of self.old table key.now) ≡ true }
+        requires first { 1 ≤ row.page }
+        requires last { row.page ≤ pages_of self.old }
+        ensures noted { Changes (entries_of self.old) (entries_of self.new) table key.now (noted (row_number row.page row.slot) filled tx (entries_of self.old table key.now)) }
+        ensures there { row_of (entries_of self.new table key.now) ≡ (if filled then Some (row_number row.page row.slot) else None) }
+        ensures owned { owners_of self.new ≡ slice_set (owners_of self.old) (row.page - 1) (Some table) }
+        ensures tables { IsSameTables self.old self.new }
+    {
+        self.ledger.note(table, key, row, filled, tx);
+    }
+
+    /// Drops the empty entries of a transaction, and no others. Linear in the entries; takes no memory.
+    pub fn end_tx(&mut self, tx: TxNo)
+        ensures ended { Ends (entries_of self.old) (entries_of self.new) tx }
+        ensures owners { owners_of self.new ≡ owners_of self.old }
+        ensures tables { IsSameTables self.old self.new }
+    {
+        self.ledger.end(tx);
+    }
+}
+
+// Whether a number is less than another, or there is no other.
+fn is_below(number: TableNo, least: Option<TableNo>) -> bool
+    ensures { result ≡ is_below number least }
+{
+    match least {
+        None => true,
+        Some(least) => number < least,
+    }
+}
