@@ -5,6 +5,7 @@ pub mod CatalogueWhole
 pub mod EntriesInOrder
 pub mod GoodShapes
 pub mod Greatest
+pub mod KeysFound
 pub mod Made
 pub mod OneTransaction
 pub mod Options

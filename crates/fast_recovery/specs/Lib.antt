@@ -1,6 +1,7 @@
 pub mod Changed
 pub mod Codes
 pub mod Places
+pub mod Keys
 pub mod Images
 pub mod Order
 pub mod Found

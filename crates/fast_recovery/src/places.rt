@@ -44,7 +44,7 @@ impl Replay {
     }
 
     // Whether a page has the owner.
-    fn is_of(&self, page: u32, owner: Owner) -> bool
+    pub(crate) fn is_of(&self, page: u32, owner: Owner) -> bool
         ensures { IsTrue result ↔ (own_at self.now.own page ≡ Some owner) }
     {
         match self.owner_at(page) {

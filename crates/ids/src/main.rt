@@ -7,6 +7,9 @@ use ids_server::server::server;
 use std::io;
 use std::process::ExitCode;
 
+#[cfg(test)]
+mod tests;
+
 // The words behind the program's name.
 fn words_of(rt: &HostRuntime) -> io::Result<Vec<String>> {
     let mut words = Vec::new(rt.alloc());

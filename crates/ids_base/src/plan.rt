@@ -33,6 +33,7 @@ pub enum DataStatement {
     CreateTable { table: Name, shape: Shape },
     Insert { table: Name, row: Row },
     Select { table: Name, condition: List<Term> },
+    Delete { table: Name, condition: List<Term> },
 }
 
 /// A statement of a script.
@@ -41,6 +42,7 @@ pub enum Plan {
     Data(DataStatement),
     Begin,
     Commit,
+    Rollback,
 }
 
 impl Term {
@@ -87,6 +89,10 @@ impl DataStatement {
                 table: table.copy(),
                 condition: condition.copy(alloc)?,
             }),
+            DataStatement::Delete { table, condition } => Ok(DataStatement::Delete {
+                table: table.copy(),
+                condition: condition.copy(alloc)?,
+            }),
         }
     }
 }
@@ -100,6 +106,7 @@ impl Plan {
             Plan::Data(statement) => Ok(Plan::Data(statement.copy(alloc)?)),
             Plan::Begin => Ok(Plan::Begin),
             Plan::Commit => Ok(Plan::Commit),
+            Plan::Rollback => Ok(Plan::Rollback),
         }
     }
 }

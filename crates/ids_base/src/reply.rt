@@ -19,7 +19,9 @@ pub enum Reply {
     Begun,
     /// COMMIT WORK ended it.
     Committed,
-    /// COMMIT WORK outside a transaction.
+    /// ROLLBACK WORK took its changes back and ended it.
+    RolledBack,
+    /// COMMIT WORK or ROLLBACK WORK outside a transaction.
     NotInTx,
     /// BEGIN WORK inside a transaction.
     InTx,
@@ -31,6 +33,8 @@ pub enum Reply {
     TableExists,
     /// The statement does not fit the shape of its table, or the shape is no table's.
     BadShape,
+    /// The table has no empty slot, and no page is without an owner; with the slots and pages that the table owns.
+    NoSpace { rows: u64, pages: u64 },
 }
 
 impl Reply {
@@ -44,12 +48,17 @@ impl Reply {
             Reply::Selected(rows) => Ok(Reply::Selected(rows.copy(alloc)?)),
             Reply::Begun => Ok(Reply::Begun),
             Reply::Committed => Ok(Reply::Committed),
+            Reply::RolledBack => Ok(Reply::RolledBack),
             Reply::NotInTx => Ok(Reply::NotInTx),
             Reply::InTx => Ok(Reply::InTx),
             Reply::Duplicate => Ok(Reply::Duplicate),
             Reply::NoTable => Ok(Reply::NoTable),
             Reply::TableExists => Ok(Reply::TableExists),
             Reply::BadShape => Ok(Reply::BadShape),
+            Reply::NoSpace { rows, pages } => Ok(Reply::NoSpace {
+                rows: *rows,
+                pages: *pages,
+            }),
         }
     }
 }

@@ -15,7 +15,7 @@ use Rattle.ids_model.proofs.LogFronts.{prefixes_recover}
 use Rattle.ids_model.proofs.FrontsRecovered.{leaves_are_seen}
 use Rattle.ids_model.specs.Covered.{IsBy}
 use Rattle.ids_engine.specs.Survival.{Done, tables_from, AreFirst}
-use Rattle.ids_engine.specs.Stores.{History, under_way, entries_of, MakesSoFar, HasMark, IsMarked, AreDone, IsHistory}
+use Rattle.ids_engine.specs.Stores.{History, under_way, entries_of, MakesSoFar, HasMark, IsMarked, IsDone, AreDone, IsHistory}
 
 head_same : (x y : Entry) (xs ys : List Entry) → x ∷ xs ≡ y ∷ ys → x ≡ y
 head_same x y xs ys e = cc
@@ -91,23 +91,30 @@ flushed_holds : (m k n : ℕ) (o : Option ℕ) (marks : List Flushed) → IsMark
 flushed_holds m k n None marks marked holds by = absurd by
 flushed_holds m k n (Some at) marks marked holds by = mark_holds m k n at marks marked holds by
 
--- where less than the first n records are left, none of the transactions behind them was flushed
+-- where less than the first n records are left, a transaction that ends with them was not flushed
+next_unflushed : (m k n : ℕ) (committed : Bool) (effects : List Effect) (ds : List Done) (marks : List Flushed) (Others : List Done → Type 0) → IsDone committed effects n ds marks Others
+    → HoldsFlushed m k marks → k < n → ((es : List Done) → Others es → AreFirst m 0 es) → AreFirst m 0 ds
+next_unflushed m k n false effects ds marks Others done holds lt go = go ds done
+next_unflushed m k n true effects [] marks Others done holds lt go = absurd done
+next_unflushed m k n true effects (d ∷ ds) marks Others done holds lt go = (
+  (λ by. let high : n ≤ k = flushed_holds m k n d.flushed marks done.1 holds by in omega (arith, lt, high)),
+  go ds done.2,
+)
+
+-- and none of the transactions behind them was
 none_flushed : (m k n : ℕ) (ts : List Logged) (ds : List Done) (marks : List Flushed) → AreDone n ts ds marks → HoldsFlushed m k marks → k < n → AreFirst m 0 ds
 none_flushed m k n [] [] marks done holds lt = tt
 none_flushed m k n [] (d ∷ ds) marks done holds lt = absurd done
-none_flushed m k n (t ∷ ts) [] marks done holds lt = absurd done
-none_flushed m k n (t ∷ ts) (d ∷ ds) marks done holds lt =
-    let there : k < n + length (records_of t) = omega (arith, lt) in (
-      (λ by. let high : n + length (records_of t) ≤ k = flushed_holds m k (n + length (records_of t)) d.flushed marks done.2 holds by in omega (arith, there, high)),
-      none_flushed m k (n + length (records_of t)) ts ds marks done.3 holds there,
-    )
+none_flushed m k n (t ∷ ts) ds marks done holds lt =
+    let next = n + length (records_of t) in
+    let there : k < n + length (records_of t) = omega (arith, lt) in
+    next_unflushed m k next t.is_committed t.effects ds marks (λ es. AreDone next ts es marks) done holds there (λ es rest. none_flushed m k next ts es marks rest holds there)
 
-one_behind : (m k n : ℕ) (t : Logged) (ts : List Logged) (d : Done) (ds : List Done) (marks : List Flushed) → AreDone n (t ∷ ts) (d ∷ ds) marks → HoldsFlushed m k marks
-    → k < n + length (records_of t) → AreFirst m 0 (d ∷ ds)
-one_behind m k n t ts d ds marks done holds there = (
-  (λ by. let high : n + length (records_of t) ≤ k = flushed_holds m k (n + length (records_of t)) d.flushed marks done.2 holds by in omega (arith, there, high)),
-  none_flushed m k (n + length (records_of t)) ts ds marks done.3 holds there,
-)
+none_within : (m k n : ℕ) (t : Logged) (ts : List Logged) (ds : List Done) (marks : List Flushed) → AreDone n (t ∷ ts) ds marks → HoldsFlushed m k marks
+    → k < n + length (records_of t) → AreFirst m 0 ds
+none_within m k n t ts ds marks done holds there =
+    let next = n + length (records_of t) in
+    next_unflushed m k next t.is_committed t.effects ds marks (λ es. AreDone next ts es marks) done holds there (λ es rest. none_flushed m k next ts es marks rest holds there)
 
 -- What a front of the transactions shows: the first of them, with all that were flushed.
 
@@ -122,32 +129,43 @@ open_shows : (s : State) (T : Tables) (current : Option ℕ) (changes : List Ent
 open_shows s T None changes effects part rest q makes e = subst (λ (l : List Entry). ShowsAfter s l T) (front_of_none part rest e) (leaves_are_seen s [] T (inl (refl, q))).stands
 open_shows s T (Some tx) changes effects part rest q makes e = unfinished_shows s T tx 1 changes effects part rest q makes e
 
-within_shows : (m n : ℕ) (found : Tables) (s : State) (t : Logged) (ts : List Logged) (d : Done) (ds : List Done) (marks : List Flushed) (part : List Entry) (x : Entry) (more : List Entry)
-    → IsQuiet s found → MakesAll s found t.tx t.changes t.effects → AreDone n (t ∷ ts) (d ∷ ds) marks → HoldsFlushed m (n + length part) marks
-    → records_of t ≡ part ++ x ∷ more → Shows m found (d ∷ ds) s part
-within_shows m n found s t ts d ds marks part x more q all done holds e =
+within_shows : (m n : ℕ) (found : Tables) (s : State) (t : Logged) (ts : List Logged) (ds : List Done) (marks : List Flushed) (part : List Entry) (x : Entry) (more : List Entry)
+    → IsQuiet s found → MakesAll s found t.tx t.changes t.effects → AreDone n (t ∷ ts) ds marks → HoldsFlushed m (n + length part) marks
+    → records_of t ≡ part ++ x ∷ more → Shows m found ds s part
+within_shows m n found s t ts ds marks part x more q all done holds e =
     let left = but_last (Begin t.tx t.session ∷ t.changes) (if t.is_committed then Commit t.tx else Rollback t.tx) part x more e in
     let short : length part < length (records_of t) = shorter (records_of t) part x more e in
     record {
       count = 0;
       within = omega arith;
       shown = unfinished_shows s found t.tx t.session t.changes t.effects part left.0 q all left.1;
-      flushed = one_behind m (n + length part) n t ts d ds marks done holds (omega (arith, short));
+      flushed = none_within m (n + length part) n t ts ds marks done holds (omega (arith, short));
     }
 
 -- from the state after a transaction
-shows_on : (m : ℕ) (found : Tables) (s : State) (t : Logged) (d : Done) (ds : List Done) (part front : List Entry) → t.is_committed ≡ true → t.effects ≡ d.effects → front ≡ records_of t ++ part
-    → Shows m (after_one found t) ds (run s (records_of t)) part → Shows m found (d ∷ ds) s front
-shows_on m found s t d ds part front committed effects is h =
-    let after : after_one found t ≡ apply_all found d.effects = ap (λ (b : Bool). if b then apply_all found t.effects else found) committed ∙ ap (apply_all found) effects in
-    let there : ShowsAfter s (records_of t ++ part) (tables_from (after_one found t) (take h.count ds)) =
-    subst (λ (x : State). Stands x.own (seen x) (tables_from (after_one found t) (take h.count ds))) (sym (runs_join s (records_of t) part)) h.shown in
-    let right : ShowsAfter s (records_of t ++ part) (tables_from (apply_all found d.effects) (take h.count ds)) =
-    subst (λ (T : Tables). ShowsAfter s (records_of t ++ part) (tables_from T (take h.count ds))) after there in
+shown_on : (found U : Tables) (s : State) (t : Logged) (ds : List Done) (part front : List Entry) → after_one found t ≡ U → front ≡ records_of t ++ part
+    → ShowsAfter (run s (records_of t)) part (tables_from (after_one found t) ds) → ShowsAfter s front (tables_from U ds)
+shown_on found U s t ds part front after is shown =
+    let there : ShowsAfter s (records_of t ++ part) (tables_from (after_one found t) ds) =
+    subst (λ (x : State). Stands x.own (seen x) (tables_from (after_one found t) ds)) (sym (runs_join s (records_of t) part)) shown in
+    let right : ShowsAfter s (records_of t ++ part) (tables_from U ds) = subst (λ (T : Tables). ShowsAfter s (records_of t ++ part) (tables_from T ds)) after there in
+    subst (λ (l : List Entry). ShowsAfter s l (tables_from U ds)) (sym is) right
+
+shows_on : (m n : ℕ) (found : Tables) (s : State) (t : Logged) (ds : List Done) (marks : List Flushed) (Others : List Done → Type 0) (part front : List Entry) (committed : Bool)
+    → t.is_committed ≡ committed → front ≡ records_of t ++ part → IsDone committed t.effects n ds marks Others
+    → ((es : List Done) → Others es → Shows m (after_one found t) es (run s (records_of t)) part) → Shows m found ds s front
+shows_on m n found s t ds marks Others part front false rolled is done go =
+    let h = go ds done in
+    let after : after_one found t ≡ found = ap (λ (b : Bool). if b then apply_all found t.effects else found) rolled in
+    record { count = h.count; within = h.within; shown = shown_on found found s t (take h.count ds) part front after is h.shown; flushed = h.flushed }
+shows_on m n found s t [] marks Others part front true committed is done go = absurd done
+shows_on m n found s t (d ∷ ds) marks Others part front true committed is done go =
+    let h = go ds done.2 in
+    let after : after_one found t ≡ apply_all found d.effects = ap (λ (b : Bool). if b then apply_all found t.effects else found) committed ∙ ap (apply_all found) done.0 in
     record {
       count = suc h.count;
       within = omega (arith, h.within);
-      shown = subst (λ (l : List Entry). ShowsAfter s l (tables_from (apply_all found d.effects) (take h.count ds))) (sym is) right;
+      shown = shown_on found (apply_all found d.effects) s t (take h.count ds) part front after is h.shown;
       flushed = h.flushed;
     }
 
@@ -161,13 +179,13 @@ fronts_show m n found s [] [] marks current changes effects part rest q logs don
   flushed = tt;
 }
 fronts_show m n found s [] (d ∷ ds) marks current changes effects part rest q logs done makes e holds = absurd done
-fronts_show m n found s (t ∷ ts) [] marks current changes effects part rest q logs done makes e holds = absurd done
-fronts_show m n found s (t ∷ ts) (d ∷ ds) marks current changes effects part rest q logs done makes e holds =
+fronts_show m n found s (t ∷ ts) ds marks current changes effects part rest q logs done makes e holds =
+    let next = n + length (records_of t) in
     elim (cut_of (records_of t) (log_of ts ++ under_way current changes) part rest (sym (append_assoc (records_of t) (log_of ts) (under_way current changes)) ∙ e)) [
-      | inl h ↦ within_shows m n found s t ts d ds marks part h.0 h.1 q logs.0 done holds h.2
-      | inr h ↦ shows_on m found s t d ds h.0 part done.0 done.1 h.1
-          (fronts_show m (n + length (records_of t)) (after_one found t) (run s (records_of t)) ts ds marks current changes effects h.0 rest
-          (one_closes s found t q logs.0) logs.1 done.3
+      | inl h ↦ within_shows m n found s t ts ds marks part h.0 h.1 q logs.0 done holds h.2
+      | inr h ↦ shows_on m next found s t ds marks (λ es. AreDone next ts es marks) h.0 part t.is_committed refl h.1 done
+          (λ es behind. fronts_show m next (after_one found t) (run s (records_of t)) ts es marks current changes effects h.0 rest
+          (one_closes s found t q logs.0) logs.1 behind
           (subst (λ (x : State). MakesSoFar x (tables_after (after_one found t) ts) current changes effects) (runs_join s (records_of t) (log_of ts)) makes)
           h.2
           (subst (λ (k : ℕ). HoldsFlushed m k marks) (let same : n + length part ≡ n + length (records_of t) + length h.0 = omega (arith, ap length h.1, length-append (records_of t) h.0) in same) holds))

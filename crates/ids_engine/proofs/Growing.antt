@@ -1,10 +1,10 @@
--- How the history of a session goes on: by a BEGIN, a change, and a COMMIT.
-use Rattle.std.proofs.Common.{◌≡◌, ℕ, ◌+◌, true, Bool, refl, ap, sym, ◌∙◌, subst, List, [], ◌∷◌, ◌++◌, length, Option, Some, None, append_assoc, inl, inr, arith, length-append}
+-- How the history of a session goes on: by a BEGIN, a change, and a COMMIT or ROLLBACK.
+use Rattle.std.proofs.Common.{◌≡◌, ℕ, ◌+◌, true, false, Bool, refl, ap, sym, ◌∙◌, subst, List, [], ◌∷◌, ◌++◌, length, Option, Some, None, append_assoc, inl, inr, arith, length-append}
 use Rattle.std.specs.Prelude.{if◌then◌else◌}
 use Rattle.std.proofs.lemmas.List.{append-nil}
 use Rattle.std.proofs.lemmas.List.Concat.{flat_map-append}
 use Rattle.chunk_map.specs.declared.layout.Layout.{Layout}
-use Rattle.log_records.specs.Entries.{Entry, Begin, Commit}
+use Rattle.log_records.specs.Entries.{Entry, Begin, Commit, Rollback}
 use Rattle.log_buffer.specs.Kept.{Flushed}
 use Rattle.ids_model.specs.declared.effect.Effect.{Effect}
 use Rattle.ids_model.specs.Tables.{Tables, apply_all}
@@ -13,7 +13,7 @@ use Rattle.ids_model.specs.Logged.{Makes, MakesAll, Logged, records_of, log_of, 
 use Rattle.ids_model.proofs.TakingBack.{runs_join}
 use Rattle.ids_model.proofs.LogsStand.{changes_go_on, logs_go_on}
 use Rattle.ids_engine.specs.Survival.{Done, tables_from}
-use Rattle.ids_engine.specs.Stores.{History, entries_of, state_of, HasMark, IsMarked, AreDone, IsHistory}
+use Rattle.ids_engine.specs.Stores.{History, entries_of, state_of, HasMark, IsMarked, IsDone, AreDone, IsHistory}
 
 -- More marks.
 
@@ -31,40 +31,55 @@ marked_more : (o : Option ℕ) (n : ℕ) (marks more : List Flushed) → IsMarke
 marked_more None n marks more marked = tt
 marked_more (Some at) n marks more marked = mark_more at n marks more marked
 
+next_more : (committed : Bool) (effects : List Effect) (n : ℕ) (ds : List Done) (marks more : List Flushed) (Others More : List Done → Type 0) → ((es : List Done) → Others es → More es)
+    → IsDone committed effects n ds marks Others → IsDone committed effects n ds (marks ++ more) More
+next_more false effects n ds marks more Others More go done = go ds done
+next_more true effects n [] marks more Others More go done = absurd done
+next_more true effects n (d ∷ ds) marks more Others More go done = (done.0, marked_more d.flushed n marks more done.1, go ds done.2)
+
 done_more : (n : ℕ) (ts : List Logged) (ds : List Done) (marks more : List Flushed) → AreDone n ts ds marks → AreDone n ts ds (marks ++ more)
 done_more n [] [] marks more done = tt
 done_more n [] (d ∷ ds) marks more done = absurd done
-done_more n (t ∷ ts) [] marks more done = absurd done
-done_more n (t ∷ ts) (d ∷ ds) marks more done = (
-  done.0,
-  done.1,
-  marked_more d.flushed (n + length (records_of t)) marks more done.2,
-  done_more (n + length (records_of t)) ts ds marks more done.3,
-)
+done_more n (t ∷ ts) ds marks more done =
+    let next = n + length (records_of t) in
+    next_more t.is_committed t.effects next ds marks more (λ es. AreDone next ts es marks) (λ es. AreDone next ts es (marks ++ more)) (λ es behind. done_more next ts es marks more behind) done
 
--- one more transaction
-done_then : (n : ℕ) (ts : List Logged) (ds : List Done) (marks : List Flushed) (t : Logged) (d : Done) → AreDone n ts ds marks → t.is_committed ≡ true → t.effects ≡ d.effects
-    → IsMarked d.flushed (n + length (log_of ts) + length (records_of t)) marks → AreDone n (ts ++ t ∷ []) (ds ++ d ∷ []) marks
-done_then n [] [] marks t d done committed effects marked =
-    (committed, effects, subst (λ (k : ℕ). IsMarked d.flushed (k + length (records_of t)) marks) (let e : n + 0 ≡ n = omega arith in e) marked, tt)
-done_then n [] (u ∷ ds) marks t d done committed effects marked = absurd done
-done_then n (u ∷ ts) [] marks t d done committed effects marked = absurd done
-done_then n (u ∷ ts) (e ∷ ds) marks t d done committed effects marked =
-    let same : n + length (records_of u ++ log_of ts) ≡ n + length (records_of u) + length (log_of ts) = omega (arith, length-append (records_of u) (log_of ts)) in (
-      done.0,
-      done.1,
-      done.2,
-      done_then (n + length (records_of u)) ts ds marks t d done.3 committed effects (subst (λ (k : ℕ). IsMarked d.flushed (k + length (records_of t)) marks) same marked),
-    )
+-- More transactions.
 
--- the tables after the transactions
+next_then : (committed : Bool) (effects : List Effect) (n : ℕ) (ds es : List Done) (marks : List Flushed) (Others More : List Done → Type 0)
+    → ((others : List Done) → Others others → More (others ++ es)) → IsDone committed effects n ds marks Others → IsDone committed effects n (ds ++ es) marks More
+next_then false effects n ds es marks Others More go done = go ds done
+next_then true effects n [] es marks Others More go done = absurd done
+next_then true effects n (d ∷ ds) es marks Others More go done = (done.0, done.1, go ds done.2)
+
+done_then : (n : ℕ) (ts us : List Logged) (ds es : List Done) (marks : List Flushed) → AreDone n ts ds marks → AreDone (n + length (log_of ts)) us es marks
+    → AreDone n (ts ++ us) (ds ++ es) marks
+done_then n [] us [] es marks done more = subst (λ (k : ℕ). AreDone k us es marks) (let e : n + 0 ≡ n = omega arith in e) more
+done_then n [] us (d ∷ ds) es marks done more = absurd done
+done_then n (t ∷ ts) us ds es marks done more =
+    let next = n + length (records_of t) in
+    let same : n + length (records_of t ++ log_of ts) ≡ n + length (records_of t) + length (log_of ts) = omega (arith, length-append (records_of t) (log_of ts)) in
+    next_then t.is_committed t.effects next ds es marks (λ others. AreDone next ts others marks) (λ others. AreDone next (ts ++ us) others marks)
+    (λ others behind. done_then next ts us others es marks behind (subst (λ (k : ℕ). AreDone k us es marks) same more)) done
+
+-- The tables after the transactions.
+
+next_same : (committed : Bool) (n : ℕ) (T : Tables) (t : Logged) (ts : List Logged) (ds : List Done) (marks : List Flushed) (Others : List Done → Type 0) → t.is_committed ≡ committed
+    → IsDone committed t.effects n ds marks Others → ((U : Tables) (es : List Done) → Others es → tables_after U ts ≡ tables_from U es) → tables_after (after_one T t) ts ≡ tables_from T ds
+next_same false n T t ts ds marks Others rolled done go =
+    let after : after_one T t ≡ T = ap (λ (b : Bool). if b then apply_all T t.effects else T) rolled in
+    ap (λ (U : Tables). tables_after U ts) after ∙ go T ds done
+next_same true n T t ts [] marks Others committed done go = absurd done
+next_same true n T t ts (d ∷ ds) marks Others committed done go =
+    let after : after_one T t ≡ apply_all T d.effects = ap (λ (b : Bool). if b then apply_all T t.effects else T) committed ∙ ap (apply_all T) done.0 in
+    ap (λ (U : Tables). tables_after U ts) after ∙ go (apply_all T d.effects) ds done.2
+
 pub tables_same : (n : ℕ) (T : Tables) (ts : List Logged) (ds : List Done) (marks : List Flushed) → AreDone n ts ds marks → tables_after T ts ≡ tables_from T ds
 tables_same n T [] [] marks done = refl
 tables_same n T [] (d ∷ ds) marks done = absurd done
-tables_same n T (t ∷ ts) [] marks done = absurd done
-tables_same n T (t ∷ ts) (d ∷ ds) marks done =
-    let after : after_one T t ≡ apply_all T d.effects = ap (λ (b : Bool). if b then apply_all T t.effects else T) done.0 ∙ ap (apply_all T) done.1 in
-    tables_same (n + length (records_of t)) (after_one T t) ts ds marks done.3 ∙ ap (λ (U : Tables). tables_from U ds) after
+tables_same n T (t ∷ ts) ds marks done =
+    let next = n + length (records_of t) in
+    next_same t.is_committed next T t ts ds marks (λ es. AreDone next ts es marks) refl done (λ U es behind. tables_same next U ts es marks behind)
 
 module _ (tells : Type 0) (l : Layout) (found : Tables) (ds : List Done) (effects : List Effect) (h : History) where
   -- BEGIN
@@ -120,42 +135,53 @@ module _ (tells : Type 0) (l : Layout) (found : Tables) (ds : List Done) (effect
   grown_state tx e more =
       sym (runs_join h.start (log_of h.logged ++ Begin tx 1 ∷ h.changes) (e ∷ [])) ∙ ap (run h.start) (append_assoc (log_of h.logged) (Begin tx 1 ∷ h.changes) (e ∷ []))
 
-  -- COMMIT
+  -- The end of a transaction, which is committed or rolled back.
 
-  abbrev pub whole : ℕ → Logged
-  whole tx = record { tx = tx; session = 1; changes = h.changes; effects = effects; is_committed = true }
+  abbrev pub ending : Bool → ℕ → Entry
+  ending committed tx = if committed then Commit tx else Rollback tx
 
-  abbrev pub ended : ℕ → List Flushed → History
-  ended tx more = record h { logged = h.logged ++ whole tx ∷ []; changes = []; marks = h.marks ++ more }
+  abbrev pub whole : Bool → ℕ → Logged
+  whole committed tx = record { tx = tx; session = 1; changes = h.changes; effects = effects; is_committed = committed }
 
-  logs_then : (tx : ℕ) → log_of (h.logged ++ whole tx ∷ []) ≡ log_of h.logged ++ records_of (whole tx)
-  logs_then tx = flat_map-append records_of h.logged (whole tx ∷ []) ∙ ap (λ (es : List Entry). log_of h.logged ++ es) (append-nil (records_of (whole tx)))
+  abbrev pub ended : Bool → ℕ → List Flushed → History
+  ended committed tx more = record h { logged = h.logged ++ whole committed tx ∷ []; changes = []; marks = h.marks ++ more }
 
-  joined : (tx : ℕ) → (log_of h.logged ++ Begin tx 1 ∷ h.changes) ++ Commit tx ∷ [] ≡ log_of (h.logged ++ whole tx ∷ []) ++ []
-  joined tx = append_assoc (log_of h.logged) (Begin tx 1 ∷ h.changes) (Commit tx ∷ []) ∙ sym (append-nil (log_of (h.logged ++ whole tx ∷ [])) ∙ logs_then tx)
+  logs_then : (committed : Bool) (tx : ℕ) → log_of (h.logged ++ whole committed tx ∷ []) ≡ log_of h.logged ++ records_of (whole committed tx)
+  logs_then committed tx =
+      flat_map-append records_of h.logged (whole committed tx ∷ []) ∙ ap (λ (es : List Entry). log_of h.logged ++ es) (append-nil (records_of (whole committed tx)))
 
-  pub ended_entries : (tx : ℕ) (more : List Flushed) → entries_of h (Some tx) ++ Commit tx ∷ [] ≡ entries_of (ended tx more) None
-  ended_entries tx more = append_assoc h.closing (log_of h.logged ++ Begin tx 1 ∷ h.changes) (Commit tx ∷ []) ∙ ap (λ (es : List Entry). h.closing ++ es) (joined tx)
+  joined : (committed : Bool) (tx : ℕ) → (log_of h.logged ++ Begin tx 1 ∷ h.changes) ++ ending committed tx ∷ [] ≡ log_of (h.logged ++ whole committed tx ∷ []) ++ []
+  joined committed tx =
+      append_assoc (log_of h.logged) (Begin tx 1 ∷ h.changes) (ending committed tx ∷ []) ∙ sym (append-nil (log_of (h.logged ++ whole committed tx ∷ [])) ∙ logs_then committed tx)
 
-  pub ended_state : (tx : ℕ) (more : List Flushed) → run (state_of h (Some tx)) (Commit tx ∷ []) ≡ state_of (ended tx more) None
-  ended_state tx more = sym (runs_join h.start (log_of h.logged ++ Begin tx 1 ∷ h.changes) (Commit tx ∷ [])) ∙ ap (run h.start) (joined tx)
+  pub ended_entries : (committed : Bool) (tx : ℕ) (more : List Flushed) → entries_of h (Some tx) ++ ending committed tx ∷ [] ≡ entries_of (ended committed tx more) None
+  ended_entries committed tx more =
+      append_assoc h.closing (log_of h.logged ++ Begin tx 1 ∷ h.changes) (ending committed tx ∷ []) ∙ ap (λ (es : List Entry). h.closing ++ es) (joined committed tx)
 
-  pub commits : (tx : ℕ) (flushed : Option ℕ) (more : List Flushed) → IsHistory tells l found ds effects (Some tx) h
-      → IsMarked flushed (length (entries_of h (Some tx) ++ Commit tx ∷ [])) (h.marks ++ more)
-      → IsHistory tells l found (ds ++ record { effects = effects; flushed = flushed } ∷ []) [] None (ended tx more)
-  commits tx flushed more is marked = record {
+  pub ended_state : (committed : Bool) (tx : ℕ) (more : List Flushed) → run (state_of h (Some tx)) (ending committed tx ∷ []) ≡ state_of (ended committed tx more) None
+  ended_state committed tx more =
+      sym (runs_join h.start (log_of h.logged ++ Begin tx 1 ∷ h.changes) (ending committed tx ∷ [])) ∙ ap (run h.start) (joined committed tx)
+
+  ends : (committed : Bool) (tx : ℕ) (es : List Done) (more : List Flushed) → IsHistory tells l found ds effects (Some tx) h
+      → AreDone (length h.closing + length (log_of h.logged)) (whole committed tx ∷ []) es (h.marks ++ more) → IsHistory tells l found (ds ++ es) [] None (ended committed tx more)
+  ends committed tx es more is last = record {
     empty_base = is.empty_base;
     log = is.log;
     closes = is.closes;
     began = is.began;
     quiet = is.quiet;
-    logs = logs_go_on h.start found h.logged (whole tx) is.logs is.makes;
-    all_done = done_then (length h.closing) h.logged ds (h.marks ++ more) (whole tx) (record { effects = effects; flushed = flushed })
-        (done_more (length h.closing) h.logged ds h.marks more is.all_done) refl refl (subst (λ (k : ℕ). IsMarked flushed k (h.marks ++ more)) long marked);
+    logs = logs_go_on h.start found h.logged (whole committed tx) is.logs is.makes;
+    all_done = done_then (length h.closing) h.logged (whole committed tx ∷ []) ds es (h.marks ++ more) (done_more (length h.closing) h.logged ds h.marks more is.all_done) last;
     makes = refl;
   }
+
+  pub commits : (tx : ℕ) (flushed : Option ℕ) (more : List Flushed) → IsHistory tells l found ds effects (Some tx) h
+      → IsMarked flushed (length (entries_of h (Some tx) ++ Commit tx ∷ [])) (h.marks ++ more)
+      → IsHistory tells l found (ds ++ record { effects = effects; flushed = flushed } ∷ []) [] None (ended true tx more)
+  commits tx flushed more is marked =
+      ends true tx (record { effects = effects; flushed = flushed } ∷ []) more is (refl, subst (λ (k : ℕ). IsMarked flushed k (h.marks ++ more)) long marked, tt)
     where
-      long : length (entries_of h (Some tx) ++ Commit tx ∷ []) ≡ length h.closing + length (log_of h.logged) + length (records_of (whole tx))
+      long : length (entries_of h (Some tx) ++ Commit tx ∷ []) ≡ length h.closing + length (log_of h.logged) + length (records_of (whole true tx))
       long = omega (
         arith,
         length-append (entries_of h (Some tx)) (Commit tx ∷ []),
@@ -163,3 +189,6 @@ module _ (tells : Type 0) (l : Layout) (found : Tables) (ds : List Done) (effect
         length-append (log_of h.logged) (Begin tx 1 ∷ h.changes),
         length-append h.changes (Commit tx ∷ []),
       )
+
+  pub rolls_back : (tx : ℕ) (more : List Flushed) → IsHistory tells l found ds effects (Some tx) h → IsHistory tells l found ds [] None (ended false tx more)
+  rolls_back tx more is = subst (λ (x : List Done). IsHistory tells l found x [] None (ended false tx more)) (append-nil ds) (ends false tx [] more is tt)

@@ -1,27 +1,29 @@
--- After a new table or a new row each table has its number, and none has a greater one.
+-- After a change of one slot each table has its number, and none has a greater one.
 use Rattle.std.specs.FinMap as map
 use Rattle.std.specs.FinMap.{get-empty, get-insert}
 use Rattle.std.specs.Ordering.{nat_cmp}
-use Rattle.std.proofs.Common.{◌≡◌, ◌≤◌, ◌+◌, ℕ, Bool, true, false, cond, refl, ap, sym, subst, ◌∙◌, List, ◌∷◌, length, Some, None, ◌⊎◌, inl, inr, arith}
+use Rattle.std.proofs.Common.{◌≡◌, ◌≤◌, ◌+◌, ℕ, Bool, true, false, cond, refl, ap, sym, subst, ◌∙◌, List, [], ◌∷◌, length, Some, None, ◌⊎◌, inl, inr, arith}
 use Rattle.ids_base.specs.declared.value.Value.{Value}
 use Rattle.ids_base.specs.Orders.{names_total}
 use Rattle.ids_base.specs.Values.{name_cmp}
 use Rattle.ids_base.specs.RowIds.{page_of, row_number}
 use Rattle.row_codec.specs.Catalogue.{entry_of}
+use Rattle.log_records.specs.Entries as ends
 use Rattle.log_records.specs.declared.record.Record.TheVariants.{Begin, Commit, Rollback, HInsert, HDelete, HUpdate, Ckpoint}
 use Rattle.ids_model.specs.declared.effect.Effect.TheVariants.{NewTable, Change}
 use Rattle.ids_model.specs.Tables.{Row, Shape, Name, Tables, shape_of, shape_at, apply}
 use Rattle.ids_model.specs.Slots.{Bytes, Own, Slots, own_at, slot_at, set_slot, set_own}
-use Rattle.ids_model.specs.Recovered.{State, SlotChange, inserted}
-use Rattle.ids_model.specs.Stands.{catalogue, owner_of, Holds, IsCatalogued}
-use Rattle.ids_model.specs.Logged.{StandsWhole, IsFreeFor, AddsTable, ChangesRow}
+use Rattle.ids_model.specs.Recovered.{State, SlotChange, inserted, deleted, run, seen}
+use Rattle.ids_model.specs.Stands.{catalogue, owner_of, Holds, CatalogueRow, IsCatalogued}
+use Rattle.ids_model.specs.Logged.{StandsWhole, IsFreeFor, AddsTable, ChangesRow, IsOpen}
 use Rattle.ids_model.proofs.Lookups.{same_table, one_name, shape-new, shape-change}
 use Rattle.ids_model.proofs.Setting.{own_elsewhere, own_here, slot_elsewhere, slot_here, same_or_not}
 use Rattle.ids_model.proofs.Holding as holding
 use Rattle.ids_model.proofs.Holding.{some_same, none_some, catalogue_moves, one_owner}
 use Rattle.ids_model.proofs.OwningPages.{named_goes, page_keeps}
-use Rattle.ids_model.proofs.EffectsStand.{new_rows_stand, new_tables_stand}
+use Rattle.ids_model.proofs.EffectsStand.{new_rows_stand, gone_rows_stand, new_tables_stand}
 use Rattle.ids_model.proofs.OneTables.{nothing_stands}
+use Rattle.ids_model.proofs.TakingBack.{rollbacks_are_seen}
 use Rattle.ids_model.proofs.EntryLengths.{entry_has_length}
 use Rattle.ids_model.proofs.RowLengths.{said_has_length}
 use Rattle.fast_recovery.specs.Found.{Numbers}
@@ -149,6 +151,56 @@ kept-row s T numbers greatest table slot bytes n k row standing kept new =
     kept.no_greater.least
     (owners-below s.own s.slots slot owner bytes greatest (kept.no_greater.catalogued table n new.shape new.named) kept.no_greater.owners)
 
+-- where no row of the catalogue is new, each table keeps its number
+pub fewer-kept : (s : State) (T F : Tables) (numbers : Numbers) (greatest : ℕ) (Q : Slots) (standing : List SlotChange) → IsKept s T numbers greatest → StandsWhole s.own Q F
+    → ((slot number : ℕ) (name : Name) (shape : Shape) → CatalogueRow s.own Q slot number name shape → CatalogueRow s.own s.slots slot number name shape)
+    → IsKept (record { own = s.own; slots = Q; standing = standing }) F numbers greatest
+fewer-kept s T F numbers greatest Q standing kept it old = record {
+  stands = it;
+  numbered = record {
+    each = λ name shape is.
+        let c = it.stands.tables name shape is in
+        let before = was c.0 name shape c.1 in
+        let one = kept.numbered.each name shape (kept.stands.stands.shapes c.0 name shape before) in
+        let same = (holding.one_name s.own s.slots one.0 c.0 name shape shape kept.stands.whole one.2 before).0 in
+        (c.0, one.1 ∙ ap (λ (x : ℕ). Some x) same, c.1);
+  };
+  no_greater = record {
+    least = kept.no_greater.least;
+    owners = kept.no_greater.owners;
+    catalogued = λ number name shape c. kept.no_greater.catalogued number name shape (was number name shape c);
+  };
+}
+  where
+    was : (number : ℕ) (name : Name) (shape : Shape) → IsCatalogued s.own Q number name shape → IsCatalogued s.own s.slots number name shape
+    was number name shape c = record { slot = c.slot; row = old c.slot number name shape c.row }
+
+-- after a ROLLBACK of the only open transaction
+pub rolled-back : (s : State) (tx : ℕ) (F T : Tables) (numbers : Numbers) (greatest : ℕ) → IsOpen s tx F T → IsKept s T numbers greatest
+    → IsKept (run s (ends.Rollback tx ∷ [])) F numbers greatest
+rolled-back s tx F T numbers greatest o kept =
+    subst (λ (x : State). IsKept x F numbers greatest) (sym (rollbacks_are_seen s tx o.alone)) (fewer-kept s T F numbers greatest (seen s) [] kept o.stood o.stay)
+
+-- a row that goes
+gone-row : (s : State) (T : Tables) (numbers : Numbers) (greatest table slot : ℕ) (bytes : Bytes) (n : Name) (k : Value) (row : Row) (standing : List SlotChange)
+    → IsKept s T numbers greatest → ChangesRow s.own s.slots T table slot (Some bytes) None n k (Some row) None
+    → IsKept (record { own = s.own; slots = set_slot s.slots slot None; standing = standing }) (apply T (Change n k (Some row) None)) numbers greatest
+gone-row s T numbers greatest table slot bytes n k row standing kept gone =
+    fewer-kept s T (apply T (Change n k (Some row) None)) numbers greatest Q standing kept
+    (gone_rows_stand s.own s.slots T table slot n gone.shape bytes k row kept.stands gone.named (owned gone.page) gone.stood gone.says_before.0 gone.says_before.1)
+    (λ q number name shape. catalogue_moves s.own s.own Q s.slots q number name shape (λ b h. record { owned = h.owned; stored = back q b h.stored (same_or_not q slot) }))
+  where
+    Q : Slots
+    Q = set_slot s.slots slot None
+
+    owned : IsFreeFor s.own (page_of slot) (owner_of table gone.shape) → own_at s.own (page_of slot) ≡ Some (owner_of table gone.shape)
+    owned (inl none) = let o = kept.stands.whole.owned slot bytes gone.stood in absurd (none_some o.0 (sym none ∙ o.1))
+    owned (inr is) = is
+
+    back : (q : ℕ) (b : Bytes) → slot_at Q q ≡ Some b → (q ≡ slot) ⊎ (q ≡ slot → ⊥) → slot_at s.slots q ≡ Some b
+    back q b at (inl here) = absurd (none_some b (sym (slot_here s.slots slot None) ∙ sym (ap (slot_at Q) here) ∙ at))
+    back q b at (inr there) = sym (slot_elsewhere s.slots slot None q there) ∙ at
+
 pub kept_by_records : KeptByRecords
 kept_by_records s T numbers greatest tx (HInsert by table row bytes) (NewTable n shape) kept new makes says =
     let slot = row_number row.page row.slot in
@@ -166,7 +218,12 @@ kept_by_records s T numbers greatest tx (HInsert by table row bytes) (Change n k
 kept_by_records s T numbers greatest tx (HDelete by table row was) (Change n k None (Some w)) kept new makes says = absurd makes.1.says_before
 kept_by_records s T numbers greatest tx (HUpdate by table row rows) (Change n k None (Some w)) kept new makes says = absurd makes.1.says_before
 kept_by_records s T numbers greatest tx r (Change n k None None) kept new makes says = absurd new
-kept_by_records s T numbers greatest tx r (Change n k (Some before) after) kept new makes says = absurd new
+kept_by_records s T numbers greatest tx r (Change n k (Some before) (Some after)) kept new makes says = absurd new
+kept_by_records s T numbers greatest tx (HInsert by table row bytes) (Change n k (Some w) None) kept new makes says = absurd makes.1.says_before
+kept_by_records s T numbers greatest tx (HDelete by table row was) (Change n k (Some w) None) kept new makes says =
+    let slot = row_number row.page row.slot in
+    gone-row s T numbers greatest table slot was n k w (deleted by slot was ∷ s.standing) kept makes.1
+kept_by_records s T numbers greatest tx (HUpdate by table row rows) (Change n k (Some w) None) kept new makes says = absurd makes.1.says_after
 kept_by_records s T numbers greatest tx (HDelete by table row was) (NewTable n shape) kept new makes says = absurd makes
 kept_by_records s T numbers greatest tx (HUpdate by table row rows) (NewTable n shape) kept new makes says = absurd makes
 kept_by_records s T numbers greatest tx (Begin by session) effect kept new makes says = absurd makes

@@ -2,6 +2,7 @@ pub mod Zeros
 pub mod Places
 pub mod RowSizes
 pub mod Inserted
+pub mod Deleted
 pub mod Counting
 pub mod Keeping
 pub mod Bases
@@ -10,6 +11,7 @@ pub mod Surviving
 pub mod Growing
 pub mod Putting
 pub mod StoreSteps
+pub mod RollingBack
 pub mod Opened
 pub mod FirstsCovered
 pub mod JournalsGrow

@@ -39,7 +39,7 @@ opened_log o is within = record {
   below = subst (λ (b : Buffer). 1 ≤ length b.blocks → b.first + length b.blocks ≤ o.layout.logs * o.layout.log_size) (sym is.buffer) (λ some. absurd (omega (arith, some)));
 }
 
-module _ (s : Store) (idle : s.current ≡ None) (ranges : IsLayout s.layout) (log_is : IsLogFor s.layout s.files s.buffer) (quiet : s.replay.standing ≡ [])
+module _ (s : Store) (idle : s.current ≡ None) (none : s.undo ≡ []) (ranges : IsLayout s.layout) (log_is : IsLogFor s.layout s.files s.buffer) (quiet : s.replay.standing ≡ [])
     (memory : IsKept s.replay s.tables s.numbers s.greatest) where
   -- what was found stands in the slots
   seen_now : (T : Tables) → Stands s.replay.own (seen s.replay) T → Stands s.replay.own s.replay.slots T
@@ -82,6 +82,7 @@ module _ (s : Store) (idle : s.current ≡ None) (ranges : IsLayout s.layout) (l
           log = log_is;
           replay = ap (state_of h) (sym idle);
           tables = refl;
+          undo = none;
           memory = memory;
         }
 

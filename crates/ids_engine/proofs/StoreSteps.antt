@@ -1,5 +1,5 @@
 -- What each step of the store keeps.
-use Rattle.std.proofs.Common.{◌≡◌, ℕ, zero, suc, ◌+◌, ◌*◌, ◌≤◌, false, refl, ap, sym, ◌∙◌, subst, List, [], ◌∷◌, ◌++◌, length, take, Option, Some, None, Result, Ok, Err, append_assoc, arith, length-append}
+use Rattle.std.proofs.Common.{◌≡◌, ℕ, zero, suc, ◌+◌, ◌*◌, ◌≤◌, true, false, refl, ap, sym, ◌∙◌, subst, List, [], ◌∷◌, ◌++◌, length, take, Option, Some, None, Result, Ok, Err, append_assoc, arith, length-append}
 use Rattle.std.specs.Prelude.{IsSome, OnErr, IfErr, IsErrAnd, is_some}
 use Rattle.std.specs.List.{AllByRecursion}
 use Rattle.std.proofs.lemmas.List.{take-append-le}
@@ -18,7 +18,7 @@ use Rattle.fast_recovery.specs.Images.{Recovers}
 use Rattle.log_records.specs.Says.{entry_of}
 use Rattle.log_records.specs.declared.record.Record as log
 use Rattle.ids_engine.specs.Kept.{IsKept, KeptByRecords, numbers_after, greatest_after}
-use Rattle.ids_engine.specs.Placing.{IsNewRow, MakesIt, GivesNumber, SaysNumber}
+use Rattle.ids_engine.specs.Placing.{IsOneChange, MakesIt, GivesNumber, SaysNumber}
 use Rattle.ids_engine.specs.declared.placing.Placed.{Placed}
 use Rattle.ids_engine.specs.declared.placing.Placed.TheVariants.{Record}
 use Rattle.ids_model.specs.Covered.{IsBy}
@@ -124,13 +124,13 @@ module _ {D : Type 0} (tells : Type 0) (size : D → ℕ → ℕ) (now : D → �
   abbrev Logs : List Entry → List Flushed → Files → Buffer → D → Type 0
   Logs all marks files buffer disk = KeepsLog size now image can_leave left_at since h.base h.before all marks files buffer disk
 
-  holds_as : (current : Option ℕ) → s.current ≡ current → IsHistory tells s.layout found ds effects current h
+  pub holds_as : (current : Option ℕ) → s.current ≡ current → IsHistory tells s.layout found ds effects current h
   holds_as current is = subst (λ (o : Option ℕ). IsHistory tells s.layout found ds effects o h) is k.holds
 
-  entries_as : (current : Option ℕ) (e : Entry) → s.current ≡ current → entries_of h s.current ++ e ∷ [] ≡ entries_of h current ++ e ∷ []
+  pub entries_as : (current : Option ℕ) (e : Entry) → s.current ≡ current → entries_of h s.current ++ e ∷ [] ≡ entries_of h current ++ e ∷ []
   entries_as current e is = ap (λ (o : Option ℕ). entries_of h o ++ e ∷ []) is
 
-  state_as : (current : Option ℕ) (e : Entry) → s.current ≡ current → run s.replay (e ∷ []) ≡ run (state_of h current) (e ∷ [])
+  pub state_as : (current : Option ℕ) (e : Entry) → s.current ≡ current → run s.replay (e ∷ []) ≡ run (state_of h current) (e ∷ [])
   state_as current e is = ap (λ (x : State). run x (e ∷ [])) (k.replay ∙ ap (state_of h) is)
 
   -- a BEGIN
@@ -147,6 +147,7 @@ module _ {D : Type 0} (tells : Type 0) (size : D → ℕ → ℕ) (now : D → �
     log = log;
     replay = state_as None (Begin tx 1) is ∙ begun_state tells s.layout found ds effects h tx on.0;
     tables = k.tables;
+    undo = k.undo;
     memory = k.memory;
   }
 
@@ -155,7 +156,7 @@ module _ {D : Type 0} (tells : Type 0) (size : D → ℕ → ℕ) (now : D → �
       → IsKept (run s.replay (e ∷ [])) (apply s.tables f) numbers greatest → IsLogFor s.layout files buffer
       → ((more : List Flushed) × Logs (entries_of h s.current ++ e ∷ []) (h.marks ++ more) files buffer disk)
       → KeepsStore tells size now image can_leave left_at since found ds (effects ++ f ∷ [])
-      (record s { files = files; buffer = buffer; replay = run s.replay (e ∷ []); tables = apply s.tables f; numbers = numbers; greatest = greatest }) disk
+      (record s { files = files; buffer = buffer; replay = run s.replay (e ∷ []); tables = apply s.tables f; numbers = numbers; greatest = greatest; undo = s.undo ++ f ∷ [] }) disk
   change_keeps tx e f numbers greatest files buffer disk is makes memory log on = record {
     history = grown tells s.layout found ds effects h e on.0;
     holds = subst (λ (o : Option ℕ). IsHistory tells s.layout found ds (effects ++ f ∷ []) o (grown tells s.layout found ds effects h e on.0)) (sym is)
@@ -168,12 +169,13 @@ module _ {D : Type 0} (tells : Type 0) (size : D → ℕ → ℕ) (now : D → �
     log = log;
     replay = state_as (Some tx) e is ∙ grown_state tells s.layout found ds effects h tx e on.0 ∙ ap (state_of (grown tells s.layout found ds effects h e on.0)) (sym is);
     tables = ap (λ (T : Tables). apply T f) k.tables ∙ sym (apply_then (tables_from found ds) effects f);
+    undo = ap (λ (fs : List Effect). fs ++ f ∷ []) k.undo;
     memory = memory;
   }
 
   -- a change by a record that was found where nothing but a BEGIN had come since
   pub placed_keeps : (old : Store) (placed : Placed) (tx : ℕ) (r : log.Record) (f : Effect) (files : Files) (buffer : Buffer) (disk : D) → KeptByRecords → SameTables old s → s.current ≡ Some tx
-      → placed ≡ Record r → MakesIt old.replay old.tables tx f placed → GivesNumber (old.greatest + 1) f placed → IsNewRow f → IsLogFor s.layout files buffer
+      → placed ≡ Record r → MakesIt old.replay old.tables tx f placed → GivesNumber (old.greatest + 1) f placed → IsOneChange f → IsLogFor s.layout files buffer
       → ((more : List Flushed) × Logs (entries_of h s.current ++ entry_of r ∷ []) (h.marks ++ more) files buffer disk)
       → KeepsStore tells size now image can_leave left_at since found ds (effects ++ f ∷ [])
       (record s {
@@ -183,6 +185,7 @@ module _ {D : Type 0} (tells : Type 0) (size : D → ℕ → ℕ) (now : D → �
         tables = apply s.tables f;
         numbers = numbers_after s.numbers s.greatest f;
         greatest = greatest_after s.greatest f;
+        undo = s.undo ++ f ∷ [];
       }) disk
   placed_keeps old placed tx r f files buffer disk law same is found_is makes number new log_is on =
       let made : Makes old.replay old.tables tx (entry_of r) f = subst (MakesIt old.replay old.tables tx f) found_is makes in
@@ -196,24 +199,25 @@ module _ {D : Type 0} (tells : Type 0) (size : D → ℕ → ℕ) (now : D → �
   pub commit_keeps : (tx : ℕ) (more : List Flushed) (files : Files) (buffer : Buffer) (disk : D) → s.current ≡ Some tx → IsLogFor s.layout files buffer
       → Logs (entries_of h s.current ++ Commit tx ∷ []) ((h.marks ++ more) ++ record { at = now disk; count = length (entries_of h s.current ++ Commit tx ∷ []) } ∷ []) files buffer disk
       → KeepsStore tells size now image can_leave left_at since found (ds ++ record { effects = effects; flushed = Some (now disk) } ∷ []) []
-      (record s { files = files; buffer = buffer; replay = run s.replay (Commit tx ∷ []); current = None }) disk
+      (record s { files = files; buffer = buffer; replay = run s.replay (Commit tx ∷ []); current = None; undo = [] }) disk
   commit_keeps tx more files buffer disk is log on =
       let last : Flushed = record { at = now disk; count = length (entries_of h s.current ++ Commit tx ∷ []) } in
       let marks : (h.marks ++ more) ++ last ∷ [] ≡ h.marks ++ (more ++ last ∷ []) = append_assoc h.marks more (last ∷ []) in
       let counted : length (entries_of h s.current ++ Commit tx ∷ []) ≡ length (entries_of h (Some tx) ++ Commit tx ∷ []) = ap length (entries_as (Some tx) (Commit tx) is) in
       let d' : Done = record { effects = effects; flushed = Some (now disk) } in
-      let h' : History = ended tells s.layout found ds effects h tx (more ++ last ∷ []) in
+      let h' : History = ended tells s.layout found ds effects h true tx (more ++ last ∷ []) in
       record {
         history = h';
         holds = commits tells s.layout found ds effects h tx (Some (now disk)) (more ++ last ∷ []) (holds_as (Some tx) is)
             (last_marked (now disk) (h.marks ++ more) (length (entries_of h s.current ++ Commit tx ∷ [])) (length (entries_of h (Some tx) ++ Commit tx ∷ [])) (h.marks ++ (more ++ last ∷ [])) counted marks);
         kept = subst (λ (ms : List Flushed). Logs (entries_of h' None) ms files buffer disk) marks
-            (subst (λ (es : List Entry). Logs es ((h.marks ++ more) ++ last ∷ []) files buffer disk) (entries_as (Some tx) (Commit tx) is ∙ ended_entries tells s.layout found ds effects h tx (more ++ last ∷ [])) on);
+            (subst (λ (es : List Entry). Logs es ((h.marks ++ more) ++ last ∷ []) files buffer disk) (entries_as (Some tx) (Commit tx) is ∙ ended_entries tells s.layout found ds effects h true tx (more ++ last ∷ [])) on);
         all_flushed = all_then ds d' k.all_flushed refl;
         layout = k.layout;
         log = log;
-        replay = state_as (Some tx) (Commit tx) is ∙ ended_state tells s.layout found ds effects h tx (more ++ last ∷ []);
+        replay = state_as (Some tx) (Commit tx) is ∙ ended_state tells s.layout found ds effects h true tx (more ++ last ∷ []);
         tables = k.tables ∙ sym (tables_then found ds d');
+        undo = refl;
         memory = record { stands = k.memory.stands; numbered = k.memory.numbered; no_greater = k.memory.no_greater };
       }
 
@@ -231,9 +235,9 @@ module _ {D : Type 0} (tells : Type 0) (size : D → ℕ → ℕ) (now : D → �
       subst (λ (x : Store). KeepsStore tells size now image can_leave left_at since found ds effects x disk) (sym same) (begin_keeps tx new.files new.buffer disk is log on)
 
   pub changed_keeps : (old : Store) (placed : Placed) (tx : ℕ) (r : log.Record) (f : Effect) (new last : Store) (disk : D) → KeptByRecords → SameTables old s → s.current ≡ Some tx
-      → placed ≡ Record r → MakesIt old.replay old.tables tx f placed → GivesNumber (old.greatest + 1) f placed → IsNewRow f
+      → placed ≡ Record r → MakesIt old.replay old.tables tx f placed → GivesNumber (old.greatest + 1) f placed → IsOneChange f
       → new ≡ record s { files = new.files; buffer = new.buffer; replay = new.replay } → new.replay ≡ run s.replay (entry_of r ∷ [])
-      → last ≡ record new { tables = apply new.tables f; numbers = numbers_after new.numbers new.greatest f; greatest = greatest_after new.greatest f }
+      → last ≡ record new { tables = apply new.tables f; numbers = numbers_after new.numbers new.greatest f; greatest = greatest_after new.greatest f; undo = new.undo ++ f ∷ [] }
       → IsLogFor s.layout new.files new.buffer
       → ((more : List Flushed) × Logs (entries_of h s.current ++ entry_of r ∷ []) (h.marks ++ more) new.files new.buffer disk)
       → KeepsStore tells size now image can_leave left_at since found ds (effects ++ f ∷ []) last disk
@@ -245,25 +249,27 @@ module _ {D : Type 0} (tells : Type 0) (size : D → ℕ → ℕ) (now : D → �
         tables = apply s.tables f;
         numbers = numbers_after s.numbers s.greatest f;
         greatest = greatest_after s.greatest f;
+        undo = s.undo ++ f ∷ [];
       } =
       last_is
-      ∙ ap (λ (x : Store). let t : Store = record x { tables = apply x.tables f; numbers = numbers_after x.numbers x.greatest f; greatest = greatest_after x.greatest f } in t) put
-      ∙ ap (λ (x : State). let t : Store = record s { files = new.files; buffer = new.buffer; replay = x; tables = apply s.tables f; numbers = numbers_after s.numbers s.greatest f; greatest = greatest_after s.greatest f } in t) replay in
+      ∙ ap (λ (x : Store). let t : Store = record x { tables = apply x.tables f; numbers = numbers_after x.numbers x.greatest f; greatest = greatest_after x.greatest f; undo = x.undo ++ f ∷ [] } in t) put
+      ∙ ap (λ (x : State). let t : Store = record s { files = new.files; buffer = new.buffer; replay = x; tables = apply s.tables f; numbers = numbers_after s.numbers s.greatest f; greatest = greatest_after s.greatest f; undo = s.undo ++ f ∷ [] } in t) replay in
       subst (λ (x : Store). KeepsStore tells size now image can_leave left_at since found ds (effects ++ f ∷ []) x disk) (sym after)
       (placed_keeps old placed tx r f new.files new.buffer disk law same is found_is makes number new_row log_is on)
 
-  pub committed_keeps : (tx n : ℕ) (more : List Flushed) (new : Store) (files : Files) (buffer : Buffer) (disk : D) → s.current ≡ Some tx
+  pub committed_keeps : (tx n : ℕ) (more : List Flushed) (new : Store) (files : Files) (buffer : Buffer) (undo : List Effect) (disk : D) → s.current ≡ Some tx → undo ≡ []
       → new ≡ record s { files = new.files; buffer = new.buffer; replay = new.replay } → new.replay ≡ run s.replay (Commit tx ∷ []) → IsLogFor s.layout new.files new.buffer
       → files ≡ taken new.files n → buffer ≡ empty_at (new.buffer.first + length new.buffer.blocks)
       → Logs (entries_of h s.current ++ Commit tx ∷ []) ((h.marks ++ more) ++ record { at = now disk; count = length (entries_of h s.current ++ Commit tx ∷ []) } ∷ []) files buffer disk
       → KeepsStore tells size now image can_leave left_at since found (ds ++ record { effects = effects; flushed = Some (now disk) } ∷ []) []
-      (record new { files = files; buffer = buffer; current = None }) disk
-  committed_keeps tx n more new files buffer disk is put replay put_log moved emptied on =
+      (record new { files = files; buffer = buffer; current = None; undo = undo }) disk
+  committed_keeps tx n more new files buffer undo disk is none put replay put_log moved emptied on =
       let l = s.layout in
-      let after : Store = record s { files = files; buffer = buffer; replay = run s.replay (Commit tx ∷ []); current = None } in
-      let same : record new { files = files; buffer = buffer; current = None } ≡ after =
-      ap (λ (x : Store). let t : Store = record x { files = files; buffer = buffer; current = None } in t) put
-      ∙ ap (λ (x : State). let t : Store = record s { files = files; buffer = buffer; replay = x; current = None } in t) replay in
+      let after : Store = record s { files = files; buffer = buffer; replay = run s.replay (Commit tx ∷ []); current = None; undo = [] } in
+      let same : record new { files = files; buffer = buffer; current = None; undo = undo } ≡ after =
+      ap (λ (x : Store). let t : Store = record x { files = files; buffer = buffer; current = None; undo = undo } in t) put
+      ∙ ap (λ (x : State). let t : Store = record s { files = files; buffer = buffer; replay = x; current = None; undo = undo } in t) replay
+      ∙ ap (λ (fs : List Effect). let t : Store = record s { files = files; buffer = buffer; replay = run s.replay (Commit tx ∷ []); current = None; undo = fs } in t) none in
       let within : buffer.first ≤ 1 + l.logs * l.log_size =
       subst (λ (b : Buffer). b.first ≤ 1 + l.logs * l.log_size) (sym emptied) (omega (arith, ends_within l new.files new.buffer put_log)) in
       let below : 1 ≤ length buffer.blocks → buffer.first + length buffer.blocks ≤ l.logs * l.log_size =
@@ -289,6 +295,7 @@ module _ {D : Type 0} (tells : Type 0) (size : D → ℕ → ℕ) (now : D → �
       log = k.log;
       replay = k.replay;
       tables = k.tables;
+      undo = k.undo;
       memory = k.memory;
     };
   }
@@ -305,7 +312,7 @@ module _ {D : Type 0} (tells : Type 0) (size : D → ℕ → ℕ) (now : D → �
         → Outlives now left_at since h.base h.before (entries_of h s.current ++ Commit tx ∷ []) (h.marks ++ more) files disk
         → Survives now left_at since found (ds ++ record { effects = effects; flushed = None } ∷ []) disk
     commit_survives tx more files buffer disk is log out =
-        let h' : History = ended tells s.layout found ds effects h tx more in
+        let h' : History = ended tells s.layout found ds effects h true tx more in
         outlives_survives now left_at tells s.layout found (ds ++ record { effects = effects; flushed = None } ∷ []) [] None h' files since disk (told disk)
         (commits tells s.layout found ds effects h tx None more (holds_as (Some tx) is) tt) log.region log.first
-        (subst (λ (es : List Entry). Outlives now left_at since h.base h.before es (h.marks ++ more) files disk) (entries_as (Some tx) (Commit tx) is ∙ ended_entries tells s.layout found ds effects h tx more) out)
+        (subst (λ (es : List Entry). Outlives now left_at since h.base h.before es (h.marks ++ more) files disk) (entries_as (Some tx) (Commit tx) is ∙ ended_entries tells s.layout found ds effects h true tx more) out)

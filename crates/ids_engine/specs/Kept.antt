@@ -9,7 +9,7 @@ use Rattle.ids_model.specs.Tables.{Tables, apply}
 use Rattle.ids_model.specs.Recovered.{State, nothing, run}
 use Rattle.ids_model.specs.Logged.{StandsWhole, Makes}
 use Rattle.fast_recovery.specs.Found.{Numbers, AreNumbered, IsGreatest}
-use Rattle.ids_engine.specs.Placing.{IsNewRow, SaysNumber}
+use Rattle.ids_engine.specs.Placing.{IsOneChange, SaysNumber}
 
 -- pages and slots stand for the tables, each table has its number, and none has a greater one
 pub record IsKept (s : State) (T : Tables) (numbers : Numbers) (greatest : ℕ) : Type 0 where
@@ -30,8 +30,8 @@ greatest_after greatest (Change n k before after) = greatest
 abbrev pub KeptAtFirst : Type 0
 KeptAtFirst = IsKept nothing map.empty map.empty 99
 
--- and again after a record that makes a new table with the next number, or a new row
+-- and again after a record that makes a new table with the next number, a new row, or takes a row away
 abbrev pub KeptByRecords : Type 0
 KeptByRecords = (s : State) (T : Tables) (numbers : Numbers) (greatest tx : ℕ) (r : log.Record) (effect : Effect)
-    → IsKept s T numbers greatest → IsNewRow effect → Makes s T tx (entry_of r) effect → SaysNumber (greatest + 1) effect r
+    → IsKept s T numbers greatest → IsOneChange effect → Makes s T tx (entry_of r) effect → SaysNumber (greatest + 1) effect r
     → IsKept (run s (entry_of r ∷ [])) (apply T effect) (numbers_after numbers greatest effect) (greatest_after greatest effect)

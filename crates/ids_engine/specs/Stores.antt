@@ -1,5 +1,5 @@
 -- What the store of one session keeps: all that the session logged stands in the log on the disk and in the buffer, and the tables in memory are what it says.
-use Rattle.std.specs.Prelude.{◌≡◌, ◌≤◌, ◌⊎◌, ℕ, ◌+◌, ◌*◌, true, IsSome, List, [], ◌∷◌, ◌++◌, length, Option, Some, None}
+use Rattle.std.specs.Prelude.{◌≡◌, ◌≤◌, ◌⊎◌, ℕ, ◌+◌, ◌*◌, Bool, true, false, IsSome, List, [], ◌∷◌, ◌++◌, length, Option, Some, None}
 use Rattle.std.specs.List.{AllByRecursion}
 use Rattle.ids_outside.specs.Images.{Image}
 use Rattle.chunk_map.specs.declared.layout.Layout.{Layout}
@@ -22,7 +22,7 @@ use Rattle.ids_engine.specs.declared.store.StoreFault.{StoreFault}
 use Rattle.ids_engine.specs.declared.store.StoreFault.TheVariants.{Disk, Memory, LogFull}
 
 -- How the log came to be: the image that was opened, the records of its log, and the ROLLBACK that closed them, if one did; the state that these leave; and
--- then the transactions that were committed, the changes of the open one, and what was flushed when.
+-- then the transactions that were committed or rolled back, the changes of the open one, and what was flushed when.
 pub record History : Type 0 where
   pub base : Image
   pub before : List Entry
@@ -59,14 +59,19 @@ abbrev pub IsMarked : Option ℕ → ℕ → List Flushed → Type 0
 IsMarked None n marks = Unit {0}
 IsMarked (Some at) n marks = HasMark at n marks
 
--- Behind the first n records come those of transactions that were committed, each with its effects, and with a mark of the moment from which on it outlives a stop, if
--- there is one.
+-- A transaction whose records end with the first n. Where it was rolled back, the others alone are done. Where it was committed, the first of those that are done has its
+-- effects, and a mark of the moment from which on it outlives a stop, if there is one; the rest are the others.
+abbrev pub IsDone : Bool → List Effect → ℕ → List Done → List Flushed → (List Done → Type 0) → Type 0
+IsDone false effects n ds marks Others = Others ds
+IsDone true effects n [] marks Others = ⊥
+IsDone true effects n (d ∷ ds) marks Others = (effects ≡ d.effects) × IsMarked d.flushed n marks × Others ds
+
+-- Behind the first n records come those of transactions, and the committed ones are those that are done.
 abbrev pub AreDone : ℕ → List Logged → List Done → List Flushed → Type 0
 AreDone n [] [] marks = Unit {0}
 AreDone n [] (d ∷ ds) marks = ⊥
-AreDone n (t ∷ ts) [] marks = ⊥
-AreDone n (t ∷ ts) (d ∷ ds) marks =
-    (t.is_committed ≡ true) × (t.effects ≡ d.effects) × IsMarked d.flushed (n + length (records_of t)) marks × AreDone (n + length (records_of t)) ts ds marks
+AreDone n (t ∷ ts) ds marks =
+    IsDone t.is_committed t.effects (n + length (records_of t)) ds marks (λ others. AreDone (n + length (records_of t)) ts others marks)
 
 -- A history of a session that found these tables. What it says of the base counts where the disk tells its bytes.
 pub record IsHistory (tells : Type 0) (l : Layout) (found : Tables) (done : List Done) (effects : List Effect) (current : Option ℕ) (h : History) : Type 0 where
@@ -100,6 +105,7 @@ pub record KeepsStore {D : Type 0} (tells : Type 0) (size : D → ℕ → ℕ) (
   pub log : IsLogFor store.layout store.files store.buffer
   pub replay : store.replay ≡ state_of history store.current
   pub tables : store.tables ≡ apply_all (tables_from found done) effects
+  pub undo : store.undo ≡ effects
   pub memory : IsKept store.replay store.tables store.numbers store.greatest
 
 -- such a store, of some session
@@ -148,6 +154,7 @@ pub record SameTables (old new : Store) : Type 0 where
   pub tables : new.tables ≡ old.tables
   pub numbers : new.numbers ≡ old.numbers
   pub greatest : new.greatest ≡ old.greatest
+  pub undo : new.undo ≡ old.undo
 
 -- a transaction is open, with the number that comes next where none was open before
 pub record HasOpen (old new : Store) : Type 0 where

@@ -6,8 +6,8 @@ pub fn kept_at_first()
     ensures { KeptAtFirst }
 {}
 
-/// After a record that makes a new table with the next number, or a new row, pages and slots stand for the tables after the
-/// effect, each table has its number, and none has a greater one.
+/// After a record that makes a new table with the next number, makes a new row, or takes a row away, pages and slots stand for
+/// the tables after the effect, each table has its number, and none has a greater one.
 pub fn kept_by_records()
     ensures { KeptByRecords }
 {}

@@ -14,4 +14,6 @@ pub use init::{InitPlan, init_disk};
 pub use store::{Changed, Store, StoreFault};
 
 #[cfg(test)]
+mod store_tests;
+#[cfg(test)]
 mod tests;

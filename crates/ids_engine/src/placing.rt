@@ -1,7 +1,7 @@
-//! The records of new tables and new rows.
+//! The records of new tables, of new rows, and of rows that go.
 //!
 //! A table's row of the catalogue goes to the pages of table 1, a row to those of its table: into the empty slot with the
-//! least row id, or else into slot 1 of the least page without an owner.
+//! least row id, or else into slot 1 of the least page without an owner. A row that goes leaves its slot empty.
 ghost use Rattle.std.specs.Prelude.{◌≡◌, ◌≤◌, ◌<◌, ◌+◌, ◌^◌, ℕ, true, IfOk, Some};
 ghost use Rattle.std.proofs.Common.{◌⊎◌};
 ghost use Rattle.ids_base.specs.Shapes as shapes;
@@ -12,7 +12,8 @@ ghost use Rattle.ids_model.specs.Fits.{FitsOne};
 ghost use Rattle.ids_model.specs.Stands.{catalogue, owner_of};
 ghost use Rattle.ids_model.specs.Logged.{StandsWhole};
 ghost use Rattle.fast_recovery.specs.Found.{AreNumbered, IsGreatest};
-ghost use Rattle.ids_engine.specs.Placing.{IsNewRow, IsOwnerFor, MakesIt, GoesThere, GivesNumber, FullIfNone, IsInsertion, is_owner, owned_pages, all_taken};
+ghost use Rattle.fast_recovery.specs.Keys.{HasNoKey};
+ghost use Rattle.ids_engine.specs.Placing.{IsOneChange, TakesRow, IsOwnerFor, MakesIt, GoesThere, GivesNumber, IsPlaced, FullIfNone, IsInsertion, IsDeletion, is_owner, owned_pages, all_taken};
 
 use fast_recovery::TableNumbers;
 use fast_recovery::owner::Owner;
@@ -23,7 +24,7 @@ use ids_base::numbers::{TableNo, TxNo};
 use ids_base::row_bytes::RowBytes;
 use ids_base::row_id::slots_per_page;
 use ids_base::shape::Shape;
-use ids_base::value::Row;
+use ids_base::value::{Row, Value};
 use ids_model::effect::Effect;
 use ids_model::tables::PlainTables;
 use log_records::record::Record;
@@ -39,10 +40,12 @@ pub(crate) enum Placed {
     NoSpace { rows: u64, pages: u64 },
 }
 
-/// The record that makes a new table or a new row, or no room for it. A new table gets the number after the greatest one.
+/// The record that makes a new table or a new row, or takes a row away; or no room for a new one. A new table gets the number
+/// after the greatest one.
 ///
-/// `Memory` comes where there is none for the bytes of the row, which are the one allocation. Looks at each page, and at the
-/// slots of the owner's pages, until it has found a place; where there is none, once more at each page.
+/// `Memory` comes where there is none for the bytes of the row, which are the one allocation, or for the rows that are read
+/// until the one that goes is found. For a new one it looks at each page, and at the slots of the owner's pages, until it has
+/// found a place; where there is none, once more at each page. For one that goes it looks at each row.
 pub(crate) fn record_of(
     alloc: Global,
     replay: &Replay,
@@ -54,7 +57,7 @@ pub(crate) fn record_of(
     effect: &Effect,
 ) -> Result<Placed, Memory>
     requires fits { FitsOne tables.now effect.now }
-    requires new_row { IsNewRow effect.now }
+    requires one { IsOneChange effect.now }
     requires stands { StandsWhole replay.now.own replay.now.slots tables.now }
     requires numbers { AreNumbered replay.now.own replay.now.slots tables.now numbers.now }
     requires greatest { IsGreatest replay.now.own replay.now.slots greatest }
@@ -63,21 +66,30 @@ pub(crate) fn record_of(
     ensures makes { IfOk result (λ p. MakesIt replay.now tables.now tx effect.now p) }
     ensures lawful { IfOk result (λ p. (owner : ℕ × ℕ) → IsOwnerFor tables.now numbers.now effect.now owner → GoesThere replay.now owner pages tx p) }
     ensures number { IfOk result (λ p. GivesNumber (greatest + 1) effect.now p) }
+    ensures gone { IfOk result (λ p. TakesRow effect.now → IsPlaced p) }
     ensures no_space { IfOk result (λ p. (owner : ℕ × ℕ) → IsOwnerFor tables.now numbers.now effect.now owner → FullIfNone replay.now owner pages greatest effect.now p) }
 {
     match effect {
         Effect::NewTable { name, shape } => new_table(
             alloc, replay, greatest, pages, tx, name, shape,
         ),
-        Effect::Change { name, after, .. } => {
-            let Some(row) = after else { unreachable!() };
+        Effect::Change {
+            name,
+            key,
+            after,
+            ..
+        } => {
             let Some(table) = tables.table(name) else {
                 unreachable!()
             };
             let Some(number) = numbers.get(name) else {
                 unreachable!()
             };
-            new_row(alloc, replay, pages, tx, number, table.shape(), row)
+            let shape = table.shape();
+            match after {
+                Some(row) => new_row(alloc, replay, pages, tx, number, shape, row),
+                None => gone_row(alloc, replay, tx, number, shape, key),
+            }
         }
     }
 }
@@ -130,6 +142,39 @@ fn new_row(
     };
     let bytes = encode(alloc, shape, row)?;
     Ok(insertion(replay, owner, pages, tx, bytes))
+}
+
+// The delete of the row of a table with a key.
+fn gone_row(
+    alloc: Global,
+    replay: &Replay,
+    tx: TxNo,
+    number: TableNo,
+    shape: &Shape,
+    key: &Value,
+) -> Result<Placed, Memory>
+    requires there { ¬ HasNoKey replay.now number shape.now key.now }
+    requires some { 1 ≤ shapes.row_length shape.now }
+    requires few { shapes.row_length shape.now ≤ 800 }
+    ensures { IfOk result (IsDeletion replay.now number shape.now key.now tx) }
+{
+    let owner = Owner {
+        table: number,
+        row_length: row_length(shape.as_slice()) as u16,
+    };
+    let Some(row) = replay.row_with_key(owner, shape, key)? else {
+        unreachable!()
+    };
+    let Some(bytes) = replay.row_at(row.number()) else {
+        unreachable!()
+    };
+    let before = RowBytes::new(alloc, bytes)?;
+    Ok(Placed::Record(Record::HDelete {
+        tx,
+        table: number,
+        row,
+        before,
+    }))
 }
 
 // The insert of a row of the owner in its place.

@@ -1,7 +1,7 @@
 //! The store of one session: tables in memory, kept on the disk by the logical log alone.
 //!
-//! A transaction is BEGIN, a record for each of its changes, and COMMIT. Its records wait in the buffer, and a commit is
-//! answered after a flush. `KeepsStore` says what holds between the calls, and `store_laws` what a stop then leaves.
+//! A transaction is BEGIN, a record for each of its changes, and COMMIT or ROLLBACK. Its records wait in the buffer, and a
+//! commit is answered after a flush. `KeepsStore` says what holds between the calls, and `store_laws` what a stop then leaves.
 ghost use Rattle.std.specs.Prelude.{◌≡◌, ◌<◌, ◌≤◌, ◌+◌, ◌*◌, ◌^◌, ◌++◌, ℕ, List, [], ◌∷◌, length, true, Ok, Err, Some, None, IfOk, OnOk, OnErr, IfErr};
 ghost use Rattle.ids_outside.specs.Counts.{HasCause, Rose};
 ghost use Rattle.ids_outside.specs.Images.{Image};
@@ -16,11 +16,13 @@ ghost use Rattle.ids_model.specs.declared.effect.Effect.{Effect};
 ghost use Rattle.ids_model.specs.Tables.{Tables, apply};
 ghost use Rattle.ids_model.specs.Recovered.{run};
 ghost use Rattle.ids_model.specs.Fits.{FitsOne};
+ghost use Rattle.ids_model.specs.Undone.{undo_all};
 ghost use Rattle.ids_engine.specs.Kept.{numbers_after, greatest_after};
-ghost use Rattle.ids_engine.specs.Placing.{IsNewRow, IsOwnerFor, IsFull};
-ghost use Rattle.ids_engine.specs.Survival.{Done, Survives};
+ghost use Rattle.ids_engine.specs.Placing.{IsOneChange, TakesRow, IsOwnerFor, IsFull};
+ghost use Rattle.ids_engine.specs.Survival.{Done, Survives, tables_from};
 ghost use Rattle.ids_engine.specs.Stores.{KeepsStore, IsStore, IsLogFor, HasOpen, IsNextTx, OnDone, OnNoSpace, SameTables, last_after, with_open, despite};
 ghost use Rattle.ids_engine.specs.declared.placing.Placed.TheVariants as placed;
+ghost use Rattle.ids_engine.specs.declared.store.Changed.TheVariants as changes;
 ghost use Rattle.ids_engine.specs.declared.store.StoreFault.TheVariants as faults;
 
 use crate::laws::kept_by_records;
@@ -28,9 +30,11 @@ use crate::placing::{Placed, record_of};
 use chunk_map::Layout;
 use fast_recovery::TableNumbers;
 use fast_recovery::replay::Replay;
+use ids_base::list::List;
 use ids_base::memory::Memory;
 use ids_base::numbers::{TableNo, TxNo};
 use ids_model::effect::Effect;
+use ids_model::laws::undone_are_back;
 use ids_model::tables::PlainTables;
 use ids_outside::{Disk, DiskFault};
 use log_buffer::LogBuffer;
@@ -55,11 +59,12 @@ pub struct Store {
     pub(crate) numbers: TableNumbers,
     pub(crate) greatest: TableNo,
     pub(crate) last_tx: TxNo,
-    // The open transaction.
+    // The open transaction, and its effects in order.
     pub(crate) current: Option<TxNo>,
+    pub(crate) undo: List<Effect>,
 }
 
-/// Why a change or a commit failed.
+/// Why a change, a commit or a rollback failed.
 #[derive(Clone, Copy, Debug, Drop, PartialEq, Eq)]
 pub enum StoreFault {
     /// The disk failed.
@@ -102,25 +107,28 @@ impl Store {
         &self.tables
     }
 
-    /// Makes a change: a new table, or a new row. Opens a transaction where none is open, and leaves it open. Where there is no
-    /// place for the row nothing changes. The record waits in the buffer, and is written where the buffer is full. Looks for a
-    /// place in time of the pages. `Disk` where a call of the disk failed, `LogFull` where at most one block of the log is
-    /// left, `Memory` where memory or numbers of transactions are wanting; after each of them the disk is to be opened again.
+    /// Makes a change of one slot: a new table, a new row, or a row that goes. Opens a transaction where none is open, and leaves
+    /// it open. Where there is no place for a new row nothing changes; a row that goes needs none. The record waits in the
+    /// buffer, and is written where the buffer is full. Looks for a place in time of the pages, and for a row that goes in time
+    /// of the rows. `Disk` where a call of the disk failed, `LogFull` where at most one block of the log is left, `Memory` where
+    /// memory or numbers of transactions are wanting; after each of them the disk is to be opened again.
     pub fn change<D: Disk>(&mut self, disk: &mut D, effect: &Effect) -> Result<Changed, StoreFault>
         requires sound { IsStore ⊥ D.size D.now D.image D.can_leave D.left_at self.old disk.old }
         requires fits { FitsOne self.old.tables effect.now }
-        requires new_row { IsNewRow effect.now }
+        requires one { IsOneChange effect.now }
 
         ensures done { IfOk result (λ came. OnDone came ((since : ℕ) (found : Tables) (done : List Done) (effects : List Effect)
             → KeepsStore D.tells D.size D.now D.image D.can_leave D.left_at since found done effects self.old disk.old
             → KeepsStore D.tells D.size D.now D.image D.can_leave D.left_at since found done (effects ++ effect.now ∷ []) self.new disk.new)) }
         ensures tables { IfOk result (λ came. OnDone came (self.new.tables ≡ apply self.old.tables effect.now)) }
         ensures opened { IfOk result (λ came. OnDone came (HasOpen self.old self.new)) }
+        ensures noted { IfOk result (λ came. OnDone came (self.new.undo ≡ self.old.undo ++ effect.now ∷ [])) }
         // Also on a disk that does not tell its bytes.
         ensures sound { OnOk result (IsStore ⊥ D.size D.now D.image D.can_leave D.left_at self.new disk.new) }
         ensures no_space { IfOk result (λ came. OnNoSpace came (λ rows pages. (self.new ≡ self.old) × (disk.new ≡ disk.old))) }
         ensures full { IfOk result (λ came. OnNoSpace came (λ rows pages. (owner : ℕ × ℕ) → IsOwnerFor self.old.tables self.old.numbers effect.now owner
             → IsFull self.old.replay owner (self.old.layout.chunks * self.old.layout.data_pages) self.old.greatest effect.now (placed.NoSpace rows pages))) }
+        ensures gone { IfOk result (λ came. TakesRow effect.now → came ≡ changes.Done) }
         ensures err { OnErr result ((since : ℕ) (found : Tables) (done : List Done) (effects : List Effect)
             → KeepsStore D.tells D.size D.now D.image D.can_leave D.left_at since found done effects self.old disk.old
             → Survives D.now D.left_at since found done disk.new) }
@@ -182,6 +190,46 @@ impl Store {
         self.put(disk, &Record::Commit { tx })?;
         self.buffer.flush(disk, &mut self.files)?;
         self.current = None;
+        self.undo = List::new(self.alloc);
+        Ok(())
+    }
+
+    /// Takes the changes of the open transaction back, the latest first, and closes it; where none is open it does nothing. The
+    /// tables are those before the transaction, and a stop leaves them too, from now on as before. Its ROLLBACK waits in the
+    /// buffer. Logarithmic time for each change. Errors as for a change, and after them too the disk is to be opened again.
+    pub fn rollback<D: Disk>(&mut self, disk: &mut D) -> Result<(), StoreFault>
+        requires sound { IsStore ⊥ D.size D.now D.image D.can_leave D.left_at self.old disk.old }
+
+        ensures ok { OnOk result ((since : ℕ) (found : Tables) (done : List Done) (effects : List Effect)
+            → KeepsStore D.tells D.size D.now D.image D.can_leave D.left_at since found done effects self.old disk.old
+            → KeepsStore D.tells D.size D.now D.image D.can_leave D.left_at since found done [] self.new disk.new) }
+        ensures tables { OnOk result ((since : ℕ) (found : Tables) (done : List Done) (effects : List Effect)
+            → KeepsStore D.tells D.size D.now D.image D.can_leave D.left_at since found done effects self.old disk.old
+            → self.new.tables ≡ tables_from found done) }
+        ensures undone { OnOk result (self.new.tables ≡ undo_all self.old.tables self.old.undo) }
+        ensures closed { OnOk result (self.new.current ≡ None) }
+        ensures last { OnOk result (self.new.last_tx ≡ self.old.last_tx) }
+        // A number of a table is given once.
+        ensures greatest { OnOk result (self.new.greatest ≡ self.old.greatest) }
+        // Also on a disk that does not tell its bytes.
+        ensures sound { OnOk result (IsStore ⊥ D.size D.now D.image D.can_leave D.left_at self.new disk.new) }
+        ensures err { OnErr result ((since : ℕ) (found : Tables) (done : List Done) (effects : List Effect)
+            → KeepsStore D.tells D.size D.now D.image D.can_leave D.left_at since found done effects self.old disk.old
+            → Survives D.now D.left_at since found done disk.new) }
+        ensures log_full { result ≡ Err faults.LogFull → self.old.layout.logs * self.old.layout.log_size ≤ block_for self.old.buffer 11 }
+        ensures later { D.now disk.old ≤ D.now disk.new }
+        ensures counted { D.fault_count disk.old ≤ D.fault_count disk.new }
+        ensures cause { result ≡ Err faults.Disk → Rose (D.fault_count disk.old) (D.fault_count disk.new) }
+        ensures sizes { (j : ℕ) → D.size disk.new j ≡ D.size disk.old j }
+    {
+        undone_are_back();
+        let Some(tx) = self.current else {
+            return Ok(());
+        };
+        self.tables.undo(self.undo.as_slice())?;
+        self.put(disk, &Record::Rollback { tx })?;
+        self.current = None; // closed
+        self.undo = List::new(self.alloc);
         Ok(())
     }
 
@@ -230,10 +278,11 @@ impl Store {
         Ok(())
     }
 
-    // Makes the effect of a record that was put: on the tables, and on the numbers where it is a new table.
+    // Makes the effect of a record that was put: on the tables, and on the numbers where it is a new table. It is then one of
+    // the open transaction.
     fn take(&mut self, effect: &Effect) -> Result<(), StoreFault>
         requires { FitsOne self.old.tables effect.now }
-        ensures taken { OnOk result (self.new ≡ record self.old { tables = apply self.old.tables effect.now; numbers = numbers_after self.old.numbers self.old.greatest effect.now; greatest = greatest_after self.old.greatest effect.now }) }
+        ensures taken { OnOk result (self.new ≡ record self.old { tables = apply self.old.tables effect.now; numbers = numbers_after self.old.numbers self.old.greatest effect.now; greatest = greatest_after self.old.greatest effect.now; undo = self.old.undo ++ effect.now ∷ [] }) }
         ensures err { IfErr result (λ e. e ≡ faults.Memory) }
     {
         let copy = effect.copy(self.alloc)?;
@@ -243,6 +292,8 @@ impl Store {
             self.numbers.set(name.copy(), number)?;
             self.greatest = number;
         }
+        let copy = effect.copy(self.alloc)?;
+        self.undo.push(copy)?;
         Ok(())
     }
 

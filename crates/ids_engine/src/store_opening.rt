@@ -1,5 +1,5 @@
 //! Opening a store.
-ghost use Rattle.std.specs.Prelude.{◌≡◌, ◌≤◌, ℕ, Err, IfOk, IfErr};
+ghost use Rattle.std.specs.Prelude.{◌≡◌, ◌≤◌, ℕ, [], Err, IfOk, IfErr};
 ghost use Rattle.ids_outside.specs.Counts.{Rose};
 ghost use Rattle.fast_recovery.specs.Images.{Recovers};
 ghost use Rattle.fast_recovery.specs.Opening.{TablesStay};
@@ -14,6 +14,7 @@ use fast_recovery::OpenFault;
 use fast_recovery::opening::open_log;
 use fast_recovery::replay::Replay;
 use fast_recovery::tables::{Found, TablesFault};
+use ids_base::list::List;
 use ids_base::status::Place;
 use ids_model::recovery_laws::{rollbacks_are_seen, runs_join, tables_are_one};
 use ids_outside::Disk;
@@ -36,6 +37,7 @@ impl Store {
     pub fn from_disk<D: Disk>(alloc: Global, disk: &mut D) -> Result<Store, OpenFault>
         // Also on a disk that does not tell its bytes.
         ensures sound { IfOk result (λ s. IsStore ⊥ D.size D.now D.image D.can_leave D.left_at s disk.new) }
+        ensures fresh { IfOk result (λ s. s.undo ≡ []) }
         ensures kept { IfOk result (λ s. (T : Tables) → D.tells → Recovers (D.image disk.old) T
             → HasFound D.tells D.size D.now D.image D.can_leave D.left_at s disk.old disk.new T) }
         ensures any_moment { TablesStay D.now D.image D.can_leave D.left_at disk.old disk.new }
@@ -63,6 +65,7 @@ impl Store {
             greatest: found.greatest,
             last_tx: opened.last_tx,
             current: None,
+            undo: List::new(alloc),
         })
     }
 }

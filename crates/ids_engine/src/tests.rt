@@ -3,12 +3,12 @@ ghost use Rattle.std.specs.Prelude.{◌≡◌, ◌≤◌, ◌+◌, [], ◌∷◌
 ghost use Rattle.log_records.specs.Says.{entry_of};
 ghost use Rattle.ids_model.specs.Fits.{Fits};
 ghost use Rattle.ids_model.specs.Logged.{Makes};
-ghost use Rattle.ids_engine.specs.Placing.{IsNewRow, SaysNumber};
+ghost use Rattle.ids_engine.specs.Placing.{IsOneChange, SaysNumber};
 ghost use Rattle.ids_engine.specs.Kept.{IsKept, numbers_after, greatest_after};
 ghost use Rattle.ids_engine.specs.Plans.{IsPlan};
 
 use crate::placing::{Placed, record_of};
-use crate::{Changed, InitPlan, Store, init_disk};
+use crate::{InitPlan, init_disk};
 use chunk_map::{newest, read_identity};
 use fast_recovery::TableNumbers;
 use fast_recovery::replay::Replay;
@@ -24,13 +24,13 @@ use ids_model::effect::Effect;
 use ids_model::interpret::outcome_of;
 use ids_model::outcome::Outcome;
 use ids_model::tables::PlainTables;
-use ids_outside::{Disk, MemDisk};
+use ids_outside::MemDisk;
 use log_records::record::Record;
 use std::alloc::{AllocError, Global};
 use std::marker::Model;
 use std::test::Fail;
 
-fn plan(root: u32) -> InitPlan
+pub(crate) fn plan(root: u32) -> InitPlan
     requires { root ≤ 100000 }
     ensures { IsPlan result }
 {
@@ -44,7 +44,7 @@ fn plan(root: u32) -> InitPlan
     }
 }
 
-fn empty_disk(alloc: Global) -> Result<MemDisk, AllocError> {
+pub(crate) fn empty_disk(alloc: Global) -> Result<MemDisk, AllocError> {
     MemDisk::new(alloc, &[], Vec::new(alloc))
 }
 
@@ -129,7 +129,7 @@ fn at_first(alloc: Global) -> Kept {
 }
 
 // The effect, where there is one alone.
-fn one_of(effects: &List<Effect>) -> Option<&Effect>
+pub(crate) fn one_of(effects: &List<Effect>) -> Option<&Effect>
     ensures { IfSome result (λ e. effects.now ≡ e.now ∷ []) }
 {
     match effects.as_slice() {
@@ -141,13 +141,13 @@ fn one_of(effects: &List<Effect>) -> Option<&Effect>
     }
 }
 
-fn is_new_row(effect: &Effect) -> bool
-    ensures { IsTrue result → IsNewRow effect.now }
+pub(crate) fn is_one_change(effect: &Effect) -> bool
+    ensures { IsTrue result → IsOneChange effect.now }
 {
     match effect {
         Effect::NewTable { .. } => true,
         Effect::Change { before, after, .. } => match (before, after) {
-            (None, Some(_)) => true,
+            (None, Some(_)) | (Some(_), None) => true,
             _ => false,
         },
     }
@@ -185,7 +185,7 @@ fn go_on(
     effects: &[Effect],
 ) -> Result<Kept, Fail>
     requires kept { IsKept replay tables numbers greatest }
-    requires new_row { IsNewRow effect.now }
+    requires one { IsOneChange effect.now }
     requires makes { Makes replay tables 1 (entry_of «record».now) effect.now }
     requires number { SaysNumber (greatest + 1) effect.now «record».now }
     requires alone { effects.now ≡ effect.now ∷ [] }
@@ -205,7 +205,7 @@ fn go_on(
     })
 }
 
-// Executes a statement with one effect, a new table or a new row.
+// Executes a statement with one effect, a change of one slot.
 fn execute(
     alloc: Global,
     kept: Kept,
@@ -222,8 +222,8 @@ fn execute(
     let Some(effect) = one_of(&effects) else {
         return Err("not one effect".into());
     };
-    if !is_new_row(effect) {
-        return Err("no new row".into());
+    if !is_one_change(effect) {
+        return Err("not one change".into());
     }
     let pages = u32::from(pages);
     let placed = record_of(
@@ -244,7 +244,7 @@ fn execute(
     Ok((kept, placed))
 }
 
-fn name(text: &[u8]) -> Result<Name, Fail> {
+pub(crate) fn name(text: &[u8]) -> Result<Name, Fail> {
     match Name::new(text) {
         Some(name) => Ok(name),
         None => Err("no name".into()),
@@ -252,7 +252,7 @@ fn name(text: &[u8]) -> Result<Name, Fail> {
 }
 
 // CREATE TABLE of a table (k INTEGER, c CHAR(size)).
-fn create(alloc: Global, table: &[u8], size: u16) -> Result<DataStatement, Fail> {
+pub(crate) fn create(alloc: Global, table: &[u8], size: u16) -> Result<DataStatement, Fail> {
     let mut columns = List::new(alloc);
     columns.push(Column {
         name: name(b"k")?,
@@ -269,7 +269,7 @@ fn create(alloc: Global, table: &[u8], size: u16) -> Result<DataStatement, Fail>
 }
 
 // INSERT of a number and the text `ab` into a table.
-fn insert(alloc: Global, table: &[u8], key: i32) -> Result<DataStatement, Fail> {
+pub(crate) fn insert(alloc: Global, table: &[u8], key: i32) -> Result<DataStatement, Fail> {
     let mut row = List::new(alloc);
     row.push(Value::Int(key))?;
     row.push(Value::Chars(Chars::new(alloc, b"ab")?))?;
@@ -383,70 +383,5 @@ fn no_page_is_left(rt: HostRuntime) -> Result<(), Fail> {
     let (kept, _) = create_table(alloc, with_row(alloc, 2, 4)?, 2, b"u", 4)?;
     let (_, row) = insert_row(alloc, kept, 2, b"u", 7)?;
     assert_eq!(rt; taken(&row), Some((0, 0)));
-    Ok(())
-}
-
-// A store is opened on the disk, and executes a statement with one effect.
-fn opened_with<D: Disk>(
-    alloc: Global,
-    disk: &mut D,
-    statement: &DataStatement,
-    is_committed: bool,
-) -> Result<(), Fail> {
-    let Ok(mut store) = Store::from_disk(alloc, disk) else {
-        return Err("not opened".into());
-    };
-    let Outcome { effects, .. } = outcome_of(alloc, store.tables(), statement)?;
-    let Some(effect) = one_of(&effects) else {
-        return Err("not one effect".into());
-    };
-    if !is_new_row(effect) {
-        return Err("no new row".into());
-    }
-    let Ok(Changed::Done) = store.change(disk, effect) else {
-        return Err("no change".into());
-    };
-    if is_committed && store.commit(disk).is_err() {
-        return Err("no commit".into());
-    }
-    Ok(())
-}
-
-// Whether table t has a row with key 7 on the disk.
-fn finds_row<D: Disk>(alloc: Global, disk: &mut D) -> Result<bool, Fail> {
-    let Ok(store) = Store::from_disk(alloc, disk) else {
-        return Err("not opened".into());
-    };
-    match store.tables().table(&name(b"t")?) {
-        None => Err("no table".into()),
-        Some(table) => Ok(table.row(&Value::Int(7)).is_some()),
-    }
-}
-
-// A disk with table t and no rows.
-fn disk_with_table(alloc: Global) -> Result<MemDisk, Fail> {
-    let mut disk = empty_disk(alloc)?;
-    if init_disk(&mut disk, &plan(323)).is_err() {
-        return Err("not formatted".into());
-    }
-    opened_with(alloc, &mut disk, &create(alloc, b"t", 4)?, true)?;
-    Ok(disk)
-}
-
-#[test]
-fn what_is_committed_is_found(rt: HostRuntime) -> Result<(), Fail> {
-    let alloc = rt.alloc();
-    let mut disk = disk_with_table(alloc)?;
-    opened_with(alloc, &mut disk, &insert(alloc, b"t", 7)?, true)?;
-    assert!(rt; finds_row(alloc, &mut disk)?);
-    Ok(())
-}
-
-#[test]
-fn what_is_not_committed_is_not_found(rt: HostRuntime) -> Result<(), Fail> {
-    let alloc = rt.alloc();
-    let mut disk = disk_with_table(alloc)?;
-    opened_with(alloc, &mut disk, &insert(alloc, b"t", 7)?, false)?;
-    assert!(rt; !finds_row(alloc, &mut disk)?);
     Ok(())
 }

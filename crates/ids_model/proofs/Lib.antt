@@ -1,5 +1,6 @@
 pub mod Answering
 pub mod CommitsShown
+pub mod Deletions
 pub mod EffectsStand
 pub mod EntryLengths
 mod Examples
@@ -17,6 +18,7 @@ pub mod OneTables
 pub mod OpenTransactions
 pub mod Outcomes
 pub mod OwningPages
+pub mod PutBack
 pub mod RowChanges
 pub mod RowLengths
 pub mod Runs
@@ -25,6 +27,6 @@ pub mod Setting
 pub mod StandingApart
 pub mod TableAdditions
 pub mod TakingBack
-pub mod Undo
+pub mod Undone
 pub mod Unmarks
 pub mod Walking

@@ -14,4 +14,5 @@ pub mod Slots
 pub mod Stands
 pub mod Tables
 pub mod Text
+pub mod Undone
 pub mod Covered

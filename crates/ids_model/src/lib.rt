@@ -13,3 +13,6 @@ pub mod recovery_laws;
 pub mod rows;
 pub mod table;
 pub mod tables;
+#[cfg(test)]
+mod tests;
+pub mod undo;

@@ -72,7 +72,7 @@ impl PlainTables {
     }
 
     // Puts a row, and gives the one that was there.
-    fn put_row(
+    pub(crate) fn put_row(
         &mut self,
         name: &Name,
         key: &Value,
@@ -119,14 +119,14 @@ impl PlainTables {
     }
 
     // Takes away a table.
-    fn unset(&mut self, name: &Name)
+    pub(crate) fn unset(&mut self, name: &Name)
         ensures { self.new ≡ map.remove self.old name.now }
     {
         self.tables.remove(name);
     }
 
     // Puts a row that was there before, or none, in its place again.
-    fn put_row_back(&mut self, name: &Name, key: &Value, row: Option<Row>)
+    pub(crate) fn put_row_back(&mut self, name: &Name, key: &Value, row: Option<Row>)
         ensures { self.new ≡ with_rows self.old name.now (map.get self.old name.now) (λ m. put_back m key.now row) }
     {
         let Some(table) = self.tables.get_mut(name) else {

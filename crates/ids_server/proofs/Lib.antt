@@ -1,4 +1,10 @@
+pub mod Answers
 pub mod Carrying
+pub mod Refused
 pub mod Texts
+pub mod Outcomes
+pub mod Taking
+pub mod Joining
 pub mod Steps
 pub mod Runs
+pub mod Opened

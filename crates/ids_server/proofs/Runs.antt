@@ -1,7 +1,7 @@
 -- What a run of a script keeps from its start to its end.
-use Rattle.std.proofs.Common.{◌≡◌, ◌∙◌, refl, sym, ap, subst, ℕ, suc, zero, ◌+◌, ◌<◌, List, [], ◌∷◌, ◌++◌, length, drop, get_or, true, None, inl, add-one, length-append, arith}
-use Rattle.std.specs.FinMap.{empty}
+use Rattle.std.proofs.Common.{◌≡◌, ◌∙◌, refl, sym, ap, subst, ℕ, suc, zero, ◌+◌, ◌<◌, List, [], ◌∷◌, ◌++◌, length, drop, get_or, Option, Some, None, ◌⊎◌, ⊎_elim, add-one, length-append, arith}
 use Rattle.ids_base.specs.declared.plan.Plan.{Plan}
+use Rattle.ids_base.specs.declared.plan.Plan.TheVariants.{Data, Begin, Commit, Rollback}
 use Rattle.ids_base.specs.declared.status.Status.{Status}
 use Rattle.ids_base.specs.declared.status.Status.TheVariants.{Done}
 use Rattle.ids_model.specs.declared.journal.Committed.{Committed}
@@ -9,22 +9,17 @@ use Rattle.ids_model.specs.declared.journal.Given.{Given}
 use Rattle.ids_model.specs.Matches.{Script, plans_of, replies_to}
 use Rattle.ids_model.specs.Moves as moves
 use Rattle.ids_model.specs.Moves.{session_now}
-use Rattle.ids_model.specs.Served.{ServedAtStart, IsNext}
+use Rattle.ids_model.specs.Tables.{Tables}
+use Rattle.ids_model.specs.Served.{IsNext}
 use Rattle.sql_reader.specs.Lines.{sessions, texts_of, statements_of, statements_in, text_in}
 use Rattle.sql_reader.specs.Plans.{IsPlanOf, Each, IsScriptOf}
-use Rattle.ids_server.specs.Running.{Running, stepped, IsRunning, StepsKeepRunning}
-use Rattle.ids_server.specs.Serving.{AllAnswered, HasRun, Serves, has_run as ran_status}
+use Rattle.ids_server.specs.declared.runner.Transaction.{Transaction}
+use Rattle.ids_server.specs.Running.{Running, data_by, begin_by, commit_by, rollback_by, Steps, Fails, IsRunning, HasEnded, StepsKeepRunning, FailuresEnd, RunsEnd}
+use Rattle.ids_server.specs.Serving.{AllAnswered, HasRun}
 
 -- no text has two plans
 abbrev pub OnePlan : Type 0
 OnePlan = (text : List ℕ) (p q : Plan) → IsPlanOf text p → IsPlanOf text q → p ≡ q
-
-abbrev pub fresh : Running
-fresh = record { tables = empty; inside = None; journal = []; given = [] }
-
--- a run begins served
-pub begins : ServedAtStart → (script : Script) (moment : ℕ) (r : Running) → r ≡ fresh → IsRunning script moment r
-begins starts script moment r is = subst (IsRunning script moment) (sym is) (record { served = starts script 1 empty; acked = tt })
 
 -- the plans of the one session
 each_of : (ts : List (List ℕ)) (script : Script) → Each (Each (Each IsPlanOf)) (sessions ts ∷ []) script → Each IsPlanOf ts (plans_of script 1)
@@ -67,14 +62,12 @@ plan_there one (t ∷ ts) [] i plan lt is each = absurd each
 plan_there one (t ∷ ts) (p ∷ ps) zero plan lt is each = (ps, ap (λ q. q ∷ ps) (one t p plan each.0 is))
 plan_there one (t ∷ ts) (p ∷ ps) (suc i) plan lt is each = plan_there one ts ps i plan (omega arith) is each.1
 
--- one statement more
-pub goes_on : OnePlan → StepsKeepRunning → (script : Script) (moment : ℕ) (r after : Running) (texts : List (List ℕ)) (i : ℕ) (plan : Plan)
-    → i < length texts → IsPlanOf (get_or texts i []) plan → after ≡ stepped moment r plan → length r.given ≡ i
-    → Each IsPlanOf texts (plans_of script 1) → IsRunning script moment r → IsRunning script moment after
-goes_on one steps script moment r after texts i plan lt at is count each running =
+-- the statement that stands at a place is the next
+pub next_there : OnePlan → (script : Script) (given : List Given) (texts : List (List ℕ)) (i : ℕ) (plan : Plan)
+    → i < length texts → IsPlanOf (get_or texts i []) plan → length given ≡ i → Each IsPlanOf texts (plans_of script 1) → IsNext script 1 given plan
+next_there one script given texts i plan lt at count each =
     let there = plan_there one texts (plans_of script 1) i plan lt at each in
-    let is_next : IsNext script 1 r.given plan = (there.0, ap (λ k. drop k (plans_of script 1)) count ∙ there.1) in
-    subst (IsRunning script moment) (sym is) (steps script moment r plan running is_next)
+    (there.0, ap (λ k. drop k (plans_of script 1)) count ∙ there.1)
 
 -- one reply more
 pub count_more : (given after : List Given) (last : Given) (i : ℕ) → after ≡ given ++ last ∷ [] → length given ≡ i → length after ≡ i + 1
@@ -105,34 +98,58 @@ left_at counts bytes script given each alone count (suc (suc n)) =
     (counts script given (suc (suc n))).1 ∙ drop-empty (length (replies_to (suc (suc n)) given)) (plans_of script (suc (suc n))) (others_of (statements_of bytes) script n each)
 
 -- and all statements are answered
-pub all_answered : moves.SessionsCount → moves.AllAnswered → (bytes : List ℕ) (script : Script) (moment : ℕ) (r : Running) (texts : List (List ℕ)) → IsScriptOf bytes script
-    → Each IsPlanOf texts (plans_of script 1) → length r.given ≡ length texts → IsRunning script moment r → AllAnswered script r.given
-all_answered counts law bytes script moment r texts is each count running = λ n.
+pub all_answered : moves.SessionsCount → moves.AllAnswered → (bytes : List ℕ) (script : Script) (found : Tables) (moment : ℕ) (r : Running) (texts : List (List ℕ)) → IsScriptOf bytes script
+    → Each IsPlanOf texts (plans_of script 1) → length r.given ≡ length texts → IsRunning script found moment r → AllAnswered script r.given
+all_answered counts law bytes script found moment r texts is each count running = λ n.
     (law script r.journal r.given n running.served.matches).0
     (left_at counts bytes script r.given is running.served.alone (count ∙ length_each texts (plans_of script 1) each) n)
 
--- what a run leaves before its end
-pub has_run : (script : Script) (moment : ℕ) (status : Status) (r : Running) → (status ≡ Done → AllAnswered script r.given) → IsRunning script moment r → HasRun script moment status r.journal r.given
-has_run script moment status r answered running = record {
-  matches = running.served.matches;
-  legal = running.served.legal;
-  replies = running.served.answered;
-  acked = running.acked;
+-- what a run leaves
+pub has_run : (script : Script) (found : Tables) (status : Status) (journal : List Committed) (given : List Given) → (status ≡ Done → AllAnswered script given)
+    → HasEnded script found journal given → HasRun script found status journal given
+has_run script found status journal given answered ended = record {
+  matches = ended.matches;
+  legal = ended.legal;
+  replies = ended.replies;
+  timely = ended.timely;
   answered = answered;
 }
 
--- the same journal and replies
-pub same_run : (script : Script) (moment : ℕ) (status : Status) (journal k : List Committed) (given h : List Given) → journal ≡ k → given ≡ h
-    → HasRun script moment status k h → HasRun script moment status journal given
-same_run script moment status journal k given h p q has = subst (λ j. HasRun script moment status j given) (sym p) (subst (λ g. HasRun script moment status k g) (sym q) has)
+-- what it leaves where nothing is given or committed behind
+pub run_ends : RunsEnd → (script : Script) (found : Tables) (moment : ℕ) (status : Status) (r : Running) (journal : List Committed) (given : List Given) → IsRunning script found moment r
+    → (status ≡ Done → AllAnswered script r.given) → journal ≡ r.journal → given ≡ r.given → HasRun script found status journal given
+run_ends ends script found moment status r journal given running answered same alike =
+    subst (λ js. HasRun script found status js given) (sym same)
+    (subst (λ gs. HasRun script found status r.journal gs) (sym alike) (has_run script found status r.journal r.given answered (ends script found moment r running)))
 
--- where nothing was run, nothing was given and nothing committed
-pub serves_nothing : ServedAtStart → (bytes : List ℕ) (status : Status) (r : Running) → r ≡ fresh → (status ≡ Done → ⊥) → (ran_status status ≡ true → ⊥)
-    → Serves bytes status r.journal r.given
-serves_nothing starts bytes status r is not_done not_run = subst (λ x. Serves bytes status x.journal x.given) (sym is) (record {
-  matches = λ script each. (starts script 1 empty).matches;
-  replies = λ script each. (starts script 1 empty).answered;
-  answered = λ done script each. absurd (not_done done);
-  ran = λ run. absurd (not_run run);
-  unread = inl (refl, refl);
-})
+-- a step gives one reply
+pub steps_give : (moment : ℕ) (r new : Running) (plan : Plan) → Steps moment r plan new → (last : Given) × (new.given ≡ r.given ++ last ∷ [])
+steps_give moment r new (Data s) steps = by r.inside steps.3
+  where
+    by : (i : Option Transaction) → new ≡ data_by moment r i s steps.0 steps.1 → (last : Given) × (new.given ≡ r.given ++ last ∷ [])
+    by None is = (_, ap (λ (x : Running). x.given) is)
+    by (Some t) is = (_, ap (λ (x : Running). x.given) is)
+steps_give moment r new Begin is = by r.inside is
+  where
+    by : (i : Option Transaction) → new ≡ begin_by r i → (last : Given) × (new.given ≡ r.given ++ last ∷ [])
+    by None is = (_, ap (λ (x : Running). x.given) is)
+    by (Some t) is = (_, ap (λ (x : Running). x.given) is)
+steps_give moment r new Commit is = by r.inside is
+  where
+    by : (i : Option Transaction) → new ≡ commit_by moment r i → (last : Given) × (new.given ≡ r.given ++ last ∷ [])
+    by None is = (_, ap (λ (x : Running). x.given) is)
+    by (Some t) is = (_, ap (λ (x : Running). x.given) is)
+steps_give moment r new Rollback is = by r.inside is
+  where
+    by : (i : Option Transaction) → new ≡ rollback_by r i → (last : Given) × (new.given ≡ r.given ++ last ∷ [])
+    by None is = (_, ap (λ (x : Running). x.given) is)
+    by (Some t) is = (_, ap (λ (x : Running). x.given) is)
+
+-- what is left where a statement failed
+pub ends_by : RunsEnd → FailuresEnd → (script : Script) (found : Tables) (moment : ℕ) (r : Running) (P : Plan → Type 0) (journal : List Committed) (given : List Given)
+    → IsRunning script found moment r → ((plan : Plan) → P plan → IsNext script 1 r.given plan)
+    → (journal ≡ r.journal) ⊎ ((plan : Plan) × P plan × Fails r plan journal) → given ≡ r.given → HasEnded script found journal given
+ends_by ends fails script found moment r P journal given running is_next failed same =
+    subst (λ gs. HasEnded script found journal gs) (sym same)
+    (⊎_elim (λ kept. subst (λ js. HasEnded script found js r.given) (sym kept) (ends script found moment r running))
+    (λ f. fails script found moment r f.0 journal running (is_next f.0 f.1) f.2) failed)

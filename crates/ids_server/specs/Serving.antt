@@ -1,17 +1,21 @@
 -- What a command gives back.
-use Rattle.std.specs.Prelude.{◌≡◌, ◌<◌, ℕ, ◌+◌, Bool, true, false, List, [], ◌∷◌, ◌++◌, length, drop, ◌⊎◌}
-use Rattle.std.specs.List.{AllByRecursion}
-use Rattle.std.specs.FinMap.{empty}
+use Rattle.std.specs.Prelude.{◌≡◌, ◌⊎◌, ◌<◌, ◌≤◌, ℕ, Bool, true, false, List, [], length}
 use Rattle.ids_base.specs.declared.status.Status.{Status}
 use Rattle.ids_base.specs.declared.status.Status.TheVariants.{Done, BadWords, BadScript, DiskFault, Memory, SinkFault, SourceFault, TooLong, NotFormatted, Damaged, AlreadyFormatted, TooSmall, LogFull}
+use Rattle.ids_outside.specs.Counts.{last_count}
+use Rattle.ids_outside.specs.Images.{Image}
+use Rattle.ids_outside.specs.Stops.{Only}
 use Rattle.ids_model.specs.declared.journal.Committed.{Committed}
 use Rattle.ids_model.specs.declared.journal.Given.{Given}
-use Rattle.ids_model.specs.Legal.{IsLegal}
+use Rattle.ids_model.specs.Tables.{Tables}
+use Rattle.ids_model.specs.Legal.{IsLegal, fold_journal}
 use Rattle.ids_model.specs.Matches.{Script, Matches, replies_to, plans_of}
-use Rattle.ids_model.specs.Answered.{Answered}
+use Rattle.ids_model.specs.Answered.{Answered, fold_first}
+use Rattle.ids_model.specs.Covered.{Covered}
+use Rattle.ids_engine.specs.Journals.{AreTimely}
+use Rattle.fast_recovery.specs.Images.{Recovers}
 use Rattle.sql_reader.specs.Lines.{InGrammar}
 use Rattle.sql_reader.specs.Plans.{IsScriptOf}
-use Rattle.ids_server.specs.Running.{IsAckedAt}
 
 -- each session has as many replies as statements
 abbrev pub AllAnswered : Script → List Given → Type 0
@@ -22,55 +26,55 @@ abbrev pub has_read : Status → Bool
 has_read Done = true
 has_read BadWords = false
 has_read (BadScript byte why) = true
-has_read DiskFault = false
+has_read DiskFault = true
 has_read Memory = false
 has_read SinkFault = true
 has_read SourceFault = false
 has_read TooLong = false
-has_read NotFormatted = false
-has_read (Damaged place) = false
+has_read NotFormatted = true
+has_read (Damaged place) = true
 has_read AlreadyFormatted = false
 has_read (TooSmall pages needed) = false
-has_read LogFull = false
+has_read LogFull = true
 
--- the script was run, to its end or until the sink failed
-abbrev pub has_run : Status → Bool
-has_run Done = true
-has_run BadWords = false
-has_run (BadScript byte why) = false
-has_run DiskFault = false
-has_run Memory = false
-has_run SinkFault = true
-has_run SourceFault = false
-has_run TooLong = false
-has_run NotFormatted = false
-has_run (Damaged place) = false
-has_run AlreadyFormatted = false
-has_run (TooSmall pages needed) = false
-has_run LogFull = false
+-- the script was checked and is one
+abbrev pub has_checked : Status → Bool
+has_checked Done = true
+has_checked BadWords = false
+has_checked (BadScript byte why) = false
+has_checked DiskFault = true
+has_checked Memory = false
+has_checked SinkFault = true
+has_checked SourceFault = false
+has_checked TooLong = false
+has_checked NotFormatted = true
+has_checked (Damaged place) = true
+has_checked AlreadyFormatted = false
+has_checked (TooSmall pages needed) = false
+has_checked LogFull = true
 
 -- an answer that a script can have, once it was read
 abbrev pub is_of_script : Status → Bool
 is_of_script Done = true
 is_of_script BadWords = false
 is_of_script (BadScript byte why) = true
-is_of_script DiskFault = false
+is_of_script DiskFault = true
 is_of_script Memory = true
 is_of_script SinkFault = true
 is_of_script SourceFault = false
 is_of_script TooLong = false
-is_of_script NotFormatted = false
-is_of_script (Damaged place) = false
+is_of_script NotFormatted = true
+is_of_script (Damaged place) = true
 is_of_script AlreadyFormatted = false
 is_of_script (TooSmall pages needed) = false
-is_of_script LogFull = false
+is_of_script LogFull = true
 
 -- an answer that a run can have
 abbrev pub is_of_run : Status → Bool
 is_of_run Done = true
 is_of_run BadWords = false
 is_of_run (BadScript byte why) = false
-is_of_run DiskFault = false
+is_of_run DiskFault = true
 is_of_run Memory = true
 is_of_run SinkFault = true
 is_of_run SourceFault = false
@@ -79,21 +83,55 @@ is_of_run NotFormatted = false
 is_of_run (Damaged place) = false
 is_of_run AlreadyFormatted = false
 is_of_run (TooSmall pages needed) = false
-is_of_run LogFull = false
+is_of_run LogFull = true
 
--- for the script of these bytes, the journal matches it and the replies, and each reply says what the tables of its moment say; where all was done, each statement has its reply;
--- where the bytes are no script, nothing was given and nothing committed
-pub record Serves (bytes : List ℕ) (status : Status) (journal : List Committed) (given : List Given) : Type 0 where
+-- an answer that formatting by the defaults can have
+abbrev pub is_of_init : Status → Bool
+is_of_init Done = true
+is_of_init BadWords = false
+is_of_init (BadScript byte why) = false
+is_of_init DiskFault = true
+is_of_init Memory = false
+is_of_init SinkFault = false
+is_of_init SourceFault = false
+is_of_init TooLong = false
+is_of_init NotFormatted = false
+is_of_init (Damaged place) = false
+is_of_init AlreadyFormatted = true
+is_of_init (TooSmall pages needed) = false
+is_of_init LogFull = false
+
+-- for the script of these bytes, the journal matches it and the replies, and each reply says what the tables of its moment say, from those that were found;
+-- where all was done, each statement has its reply; where the bytes are no script, nothing was given and nothing committed
+pub record Serves (bytes : List ℕ) (found : Tables) (status : Status) (journal : List Committed) (given : List Given) : Type 0 where
   pub matches : (script : Script) → IsScriptOf bytes script → Matches script journal given
-  pub replies : (script : Script) → IsScriptOf bytes script → Answered script empty journal given
+  pub replies : (script : Script) → IsScriptOf bytes script → Answered script found journal given
   pub answered : status ≡ Done → (script : Script) → IsScriptOf bytes script → AllAnswered script given
-  pub ran : has_run status ≡ true → InGrammar bytes
+  pub ran : has_checked status ≡ true → InGrammar bytes
   pub unread : (journal ≡ []) × (given ≡ []) ⊎ InGrammar bytes
 
 -- what a run leaves for a script
-pub record HasRun (script : Script) (moment : ℕ) (status : Status) (journal : List Committed) (given : List Given) : Type 0 where
+pub record HasRun (script : Script) (found : Tables) (status : Status) (journal : List Committed) (given : List Given) : Type 0 where
   pub matches : Matches script journal given
-  pub legal : IsLegal empty journal
-  pub replies : Answered script empty journal given
-  pub acked : AllByRecursion (IsAckedAt moment) journal
+  pub legal : IsLegal found journal
+  pub replies : Answered script found journal given
+  pub timely : AreTimely journal
   pub answered : status ≡ Done → AllAnswered script given
+
+-- a stop leaves the tables after the first entries of the journal, and each entry that was acknowledged by then is among these
+pub record LeavesFirst (T : Tables) (journal : List Committed) (m : ℕ) (c : Image) : Type 0 where
+  pub k : ℕ
+  pub covered : Covered journal m k
+  pub recovers : Recovers c (fold_first T journal k)
+
+-- What `run` leaves for a script of these bytes, over the tables that opening found. Where an image recovers tables, those are the ones that were found, unless opening was refused;
+-- where nothing else could be left at first, a stop at each moment of the call leaves the tables after the first entries of the journal, with each that was acknowledged by then;
+-- and where all was done, what a stop leaves has the whole journal.
+pub record RunsFrom {D : Type 0} (tells : Type 0) (now : D → ℕ) (image : D → Image) (can_leave : D → Image → Type 0) (left_at : D → ℕ → Image → Type 0)
+    (bytes : List ℕ) (found : Tables) (old new : D) (status : Status) (journal : List Committed) (given : List Given) : Type 0 where
+  pub legal : IsLegal found journal
+  pub serves : Serves bytes found status journal given
+  pub opened : tells → (T : Tables) → Recovers (image old) T → ((journal ≡ []) × (given ≡ [])) ⊎ (T ≡ found)
+  pub any_moment : Only (image old) (can_leave old) → now new < last_count → (T : Tables) → Recovers (image old) T
+      → (m : ℕ) (c : Image) → now old ≤ m → left_at new m c → LeavesFirst T journal m c
+  pub at_end : status ≡ Done → tells → (T : Tables) → Recovers (image old) T → (c : Image) → can_leave new c → Recovers c (fold_journal T journal)

@@ -1,31 +1,32 @@
 //! The top call: all that the program does, over the words, the source, the sink, the disk and the gate that it is handed.
-ghost use Rattle.std.specs.Prelude.{◌≡◌, ◌⊎◌, ◌↔◌, ◌<◌, ◌≤◌, ◌++◌, ℕ, List, [], length, true, false, None};
-ghost use Rattle.std.specs.List.{AllByRecursion};
-ghost use Rattle.std.specs.FinMap.{empty};
+ghost use Rattle.std.specs.Prelude.{◌≡◌, ◌⊎◌, ◌↔◌, ◌<◌, ◌≤◌, ◌++◌, ℕ, List, [], length, true, false};
+ghost use Rattle.ids_base.specs.declared.status.Place.{Place as Spot};
 ghost use Rattle.ids_base.specs.declared.status.Why.{Why as Reason};
 ghost use Rattle.ids_outside.specs.Counts.{Rose};
-ghost use Rattle.ids_model.specs.Legal.{IsLegal};
+ghost use Rattle.ids_outside.specs.Stops.{Only};
+ghost use Rattle.chunk_map.specs.Layouts.{default_layout};
+ghost use Rattle.chunk_map.specs.Formatted.{IsFormatted};
+ghost use Rattle.ids_model.specs.Tables.{Tables};
 ghost use Rattle.ids_model.specs.Text.{text};
+ghost use Rattle.ids_engine.specs.Blank.{IsBlank};
+ghost use Rattle.ids_engine.specs.Openings.{Refuses};
 ghost use Rattle.sql_reader.specs.Lines.{InGrammar, IsBadAt};
-ghost use Rattle.ids_server.specs.Words.{is_command};
+ghost use Rattle.ids_server.specs.Words.{is_run, is_init, is_command};
 ghost use Rattle.ids_server.specs.Lines.{status_line};
 ghost use Rattle.ids_server.specs.Printing.{IsFront, TakesPart, PrinterPuts, PrinterCarries, PrinterIsCaused};
-ghost use Rattle.ids_server.specs.Running.{IsAckedAt};
-ghost use Rattle.ids_server.specs.Runners.{running_of};
-ghost use Rattle.ids_server.specs.Serving.{Serves, has_read, is_of_script};
+ghost use Rattle.ids_server.specs.Serving.{RunsFrom, has_read, is_of_script};
 
+use crate::opening::{Ran, format, run_script};
 use crate::printer::Printer;
 use crate::reading::{MOST_BYTES, ReadFault, read_script};
-use crate::runner::Runner;
-use crate::session;
 use crate::text::put_status;
-use crate::words::is_run;
+use crate::words::{Command, command_of};
+use fast_recovery::OpenFault;
 use ids_base::list::List;
 use ids_base::status::{Status, Why};
 use ids_model::journal::{Committed, Given};
 use ids_model::laws;
 use ids_outside::{Disk, Gate, Sink, Source};
-use sql_reader::laws::every_script_has_plans;
 use sql_reader::script::{ScriptFault, check_script};
 use std::alloc::Global;
 
@@ -40,68 +41,98 @@ pub struct Ended<D, K> {
     pub given: List<Given>,
 }
 
-// Checks a script, and runs it.
-fn check_and_run<K: Sink>(
+// Checks a script, and runs it over the store of the disk.
+fn check_and_run<D: Disk, K: Sink>(
     alloc: Global,
     bytes: Vec<u8>,
-    moment: u64,
-    runner: &mut Runner,
+    disk: &mut D,
     printer: &mut Printer<K>,
-) -> Status
-    requires fresh { running_of runner.old ≡ record { tables = empty; inside = None; journal = []; given = [] } }
+) -> Ran
     requires clean { printer.old.gathered ≡ [] }
     requires sound { printer.old.failed ≡ false }
-    ensures serves { Serves bytes.items result runner.new.journal.items runner.new.given.items }
-    ensures legal { IsLegal empty runner.new.journal.items }
-    ensures acked { AllByRecursion (IsAckedAt moment) runner.new.journal.items }
-    ensures bad_script { (byte : ℕ) (why : Reason) → result ≡ Status.BadScript byte why → IsBadAt bytes.items byte × (why ≡ Why.Wrong) }
-    ensures own { is_of_script result ≡ true }
-    ensures printed { PrinterPuts K.tells K.taken K.fault_count printer.old printer.new (text runner.new.given.items) }
+    ensures ran { (found : Tables) × RunsFrom D.tells D.now D.image D.can_leave D.left_at bytes.items found disk.old disk.new result.status result.journal result.given }
+    ensures bad_script { (byte : ℕ) (why : Reason) → result.status ≡ Status.BadScript byte why → IsBadAt bytes.items byte × (why ≡ Why.Wrong) }
+    ensures own { is_of_script result.status ≡ true }
+    ensures printed { PrinterPuts K.tells K.taken K.fault_count printer.old printer.new (text result.given) }
     ensures clean { printer.new.gathered ≡ [] }
-    ensures failed { (result ≡ Status.SinkFault) ↔ (printer.new.failed ≡ true) }
+    ensures failed { (result.status ≡ Status.SinkFault) ↔ (printer.new.failed ≡ true) }
+    ensures disk_fault { result.status ≡ Status.DiskFault → Rose (D.fault_count disk.old) (D.fault_count disk.new) }
+    ensures not_formatted { result.status ≡ Status.NotFormatted → D.tells → Refuses (D.image disk.old) OpenFault.NotFormatted }
+    ensures damaged { (place : Spot) → result.status ≡ Status.Damaged place → D.tells → Refuses (D.image disk.old) (OpenFault.Damaged place) }
 {
     laws::served_at_start();
-    every_script_has_plans();
     match check_script(alloc, bytes) {
-        Ok(script) => session::run(alloc, &script, moment, runner, printer),
-        Err(ScriptFault::Bad { byte, why }) => Status::BadScript { byte, why },
-        Err(ScriptFault::Memory) => Status::Memory,
+        Ok(script) => run_script(alloc, &script, disk, printer),
+        Err(ScriptFault::Bad { byte, why }) => {
+            Ran::nothing(alloc, Status::BadScript { byte, why })
+        }
+        Err(ScriptFault::Memory) => Ran::nothing(alloc, Status::Memory),
     }
 }
 
-// Reads the script, checks it and runs it, where the words ask for it.
-fn answer<S: Source, K: Sink>(
+// Reads the script of the source, checks it and runs it.
+fn run_source<D: Disk, S: Source, K: Sink>(
+    alloc: Global,
+    source: &mut S,
+    disk: &mut D,
+    printer: &mut Printer<K>,
+) -> Ran
+    requires clean { printer.old.gathered ≡ [] }
+    requires sound { printer.old.failed ≡ false }
+    ensures ran { (found : Tables) × (bytes : List ℕ) × (S.tells → S.left source.old ≡ bytes)
+        × RunsFrom D.tells D.now D.image D.can_leave D.left_at bytes found disk.old disk.new result.status result.journal result.given }
+    ensures bad_script { (byte : ℕ) (why : Reason) → result.status ≡ Status.BadScript byte why → S.tells → IsBadAt (S.left source.old) byte × (why ≡ Why.Wrong) }
+    ensures too_long { result.status ≡ Status.TooLong → S.tells → MOST_BYTES < length (S.left source.old) }
+    ensures read { has_read result.status ≡ true → S.tells → length (S.left source.old) ≤ MOST_BYTES }
+    ensures source_fault { result.status ≡ Status.SourceFault → Rose (S.fault_count source.old) (S.fault_count source.new) }
+    ensures not_words { ¬ (result.status ≡ Status.BadWords) }
+    ensures printed { PrinterPuts K.tells K.taken K.fault_count printer.old printer.new (text result.given) }
+    ensures clean { printer.new.gathered ≡ [] }
+    ensures failed { (result.status ≡ Status.SinkFault) ↔ (printer.new.failed ≡ true) }
+    ensures disk_fault { result.status ≡ Status.DiskFault → Rose (D.fault_count disk.old) (D.fault_count disk.new) }
+    ensures not_formatted { result.status ≡ Status.NotFormatted → D.tells → Refuses (D.image disk.old) OpenFault.NotFormatted }
+    ensures damaged { (place : Spot) → result.status ≡ Status.Damaged place → D.tells → Refuses (D.image disk.old) (OpenFault.Damaged place) }
+{
+    laws::served_at_start();
+    match read_script(alloc, source) {
+        Ok(bytes) => check_and_run(alloc, bytes, disk, printer),
+        Err(ReadFault::Source) => Ran::nothing(alloc, Status::SourceFault),
+        Err(ReadFault::TooLong) => Ran::nothing(alloc, Status::TooLong),
+        Err(ReadFault::Memory) => Ran::nothing(alloc, Status::Memory),
+    }
+}
+
+// Does what the words ask for.
+fn answer<D: Disk, S: Source, K: Sink>(
     alloc: Global,
     words: &[String],
     source: &mut S,
-    moment: u64,
-    runner: &mut Runner,
+    disk: &mut D,
     printer: &mut Printer<K>,
-) -> Status
-    requires fresh { running_of runner.old ≡ record { tables = empty; inside = None; journal = []; given = [] } }
+) -> Ran
     requires clean { printer.old.gathered ≡ [] }
     requires sound { printer.old.failed ≡ false }
-    ensures serves { (bytes : List ℕ) × (S.tells → S.left source.old ≡ bytes) × Serves bytes result runner.new.journal.items runner.new.given.items }
-    ensures legal { IsLegal empty runner.new.journal.items }
-    ensures acked { AllByRecursion (IsAckedAt moment) runner.new.journal.items }
-    ensures bad_words { (result ≡ Status.BadWords) ↔ (is_command words.now ≡ false) }
-    ensures bad_script { (byte : ℕ) (why : Reason) → result ≡ Status.BadScript byte why → S.tells → IsBadAt (S.left source.old) byte × (why ≡ Why.Wrong) }
-    ensures too_long { result ≡ Status.TooLong → S.tells → MOST_BYTES < length (S.left source.old) }
-    ensures read { has_read result ≡ true → S.tells → length (S.left source.old) ≤ MOST_BYTES }
-    ensures source_fault { result ≡ Status.SourceFault → Rose (S.fault_count source.old) (S.fault_count source.new) }
-    ensures printed { PrinterPuts K.tells K.taken K.fault_count printer.old printer.new (text runner.new.given.items) }
+    ensures ran { is_run words.now ≡ true → (found : Tables) × (bytes : List ℕ) × (S.tells → S.left source.old ≡ bytes)
+        × RunsFrom D.tells D.now D.image D.can_leave D.left_at bytes found disk.old disk.new result.status result.journal result.given }
+    ensures idle { is_run words.now ≡ false → (result.journal ≡ []) × (result.given ≡ []) }
+    ensures formatted { is_init words.now ≡ true → result.status ≡ Status.Done → (D.tells → IsBlank default_layout (D.image disk.new) × ¬ IsFormatted (D.image disk.old)) × Only (D.image disk.new) (D.can_leave disk.new) }
+    ensures already { is_init words.now ≡ true → result.status ≡ Status.AlreadyFormatted → D.tells → IsFormatted (D.image disk.old) }
+    ensures bad_words { (result.status ≡ Status.BadWords) ↔ (is_command words.now ≡ false) }
+    ensures bad_script { (byte : ℕ) (why : Reason) → result.status ≡ Status.BadScript byte why → S.tells → IsBadAt (S.left source.old) byte × (why ≡ Why.Wrong) }
+    ensures too_long { result.status ≡ Status.TooLong → S.tells → MOST_BYTES < length (S.left source.old) }
+    ensures read { is_run words.now ≡ true → has_read result.status ≡ true → S.tells → length (S.left source.old) ≤ MOST_BYTES }
+    ensures source_fault { result.status ≡ Status.SourceFault → Rose (S.fault_count source.old) (S.fault_count source.new) }
+    ensures printed { PrinterPuts K.tells K.taken K.fault_count printer.old printer.new (text result.given) }
     ensures clean { printer.new.gathered ≡ [] }
-    ensures failed { (result ≡ Status.SinkFault) ↔ (printer.new.failed ≡ true) }
+    ensures failed { (result.status ≡ Status.SinkFault) ↔ (printer.new.failed ≡ true) }
+    ensures disk_fault { result.status ≡ Status.DiskFault → Rose (D.fault_count disk.old) (D.fault_count disk.new) }
+    ensures not_formatted { result.status ≡ Status.NotFormatted → D.tells → Refuses (D.image disk.old) OpenFault.NotFormatted }
+    ensures damaged { (place : Spot) → result.status ≡ Status.Damaged place → D.tells → Refuses (D.image disk.old) (OpenFault.Damaged place) }
 {
-    laws::served_at_start();
-    if !is_run(words) {
-        return Status::BadWords;
-    }
-    match read_script(alloc, source) {
-        Ok(bytes) => check_and_run(alloc, bytes, moment, runner, printer),
-        Err(ReadFault::Source) => Status::SourceFault,
-        Err(ReadFault::TooLong) => Status::TooLong,
-        Err(ReadFault::Memory) => Status::Memory,
+    match command_of(words) {
+        None => Ran::nothing(alloc, Status::BadWords),
+        Some(Command::Run) => run_source(alloc, source, disk, printer),
+        Some(Command::Init) => format(alloc, disk),
     }
 }
 
@@ -120,15 +151,18 @@ fn finish<K: Sink>(mut printer: Printer<K>, status: &Status) -> K
     printer.into_sink()
 }
 
-/// Does what the words ask for, and gives back what it was handed with what came of it. The command is `run`: it reads the
-/// script from the source, runs its statements in one session over tables in memory, and writes each reply to the sink. The
-/// disk is asked for its moment alone, and the gate is not called.
+/// Does what the words ask for, and gives back what it was handed with what came of it. `run` reads the script from the source,
+/// opens the disk, runs the script's statements in one session over the tables that the disk keeps, and writes each reply to the
+/// sink; a commit is answered after a sync that makes it outlive every stop. `init` formats the disk by the defaults. The gate is
+/// not called.
 ///
 /// It returns for every source: it reads at most 67108865 bytes. Statuses, in the order in which they are looked for:
-/// `BadWords` exactly where the words are no command; `SourceFault` only where the source failed, `TooLong` exactly where it
-/// gives more than 67108864 bytes; `BadScript` exactly where a line of the script is not one that is read, with the place where
-/// the first such line begins; in the run `SinkFault` only where the sink failed. `Memory` may come between the others; then
-/// what was given and committed stands. Linear in the script beside the statements' own costs.
+/// `BadWords` exactly where the words are no command; for `run` `SourceFault` only where the source failed, `TooLong` exactly
+/// where it gives more than 67108864 bytes; `BadScript` exactly where a line of the script is not one that is read, with the place
+/// where the first such line begins; `NotFormatted` and `Damaged` as opening says; in the run `SinkFault` only where the sink
+/// failed, `DiskFault` only where the disk failed, and `LogFull` where the log has no block left; for `init` `AlreadyFormatted` and
+/// `DiskFault`. `Memory` may come between the others; then what was given and committed stands. Linear in the script beside the
+/// statements' own costs.
 pub fn server<D: Disk + Send, S: Source, K: Sink + Send, G: Gate + Sync>(
     alloc: Global,
     words: &[String],
@@ -139,38 +173,42 @@ pub fn server<D: Disk + Send, S: Source, K: Sink + Send, G: Gate + Sync>(
 ) -> Ended<D, K>
     requires fresh { K.tells → K.taken out ≡ [] }
 
-    // The journal is a legal run of one thread, and with the replies it matches the script.
-    ensures legal { IsLegal empty result.journal }
-    ensures serves { (bytes : List ℕ) × (S.tells → S.left script.old ≡ bytes) × Serves bytes result.status result.journal result.given }
-    ensures acked { AllByRecursion (IsAckedAt (D.now disk)) result.journal }
+    // A run: the journal is legal from the tables that opening found and matches the script; a stop at any moment leaves the tables
+    // after its first entries, with each that was acknowledged by then.
+    ensures ran { is_run words.now ≡ true → (found : Tables) × (bytes : List ℕ) × (S.tells → S.left script.old ≡ bytes)
+        × RunsFrom D.tells D.now D.image D.can_leave D.left_at bytes found disk result.disk result.status result.journal result.given }
+    ensures idle { is_run words.now ≡ false → (result.journal ≡ []) × (result.given ≡ []) }
+
+    // A disk that is formatted.
+    ensures formatted { is_init words.now ≡ true → result.status ≡ Status.Done → (D.tells → IsBlank default_layout (D.image result.disk) × ¬ IsFormatted (D.image disk)) × Only (D.image result.disk) (D.can_leave result.disk) }
+    ensures already { is_init words.now ≡ true → result.status ≡ Status.AlreadyFormatted → D.tells → IsFormatted (D.image disk) }
 
     // The sink took the text of the replies and then the line of the status, or a front of these where it failed.
     ensures front { result.status ≡ Status.SinkFault → K.tells → IsFront (K.taken result.out) (text result.given) }
     ensures behind { ¬ (result.status ≡ Status.SinkFault) → K.tells → TakesPart (text result.given) (K.taken result.out) (status_line result.status) }
     ensures whole { ¬ (result.status ≡ Status.SinkFault) → K.tells → (K.taken result.out ≡ text result.given ++ status_line result.status) ⊎ Rose (K.fault_count out) (K.fault_count result.out) }
 
-    // Each status but `Memory` has its cause.
+    // Each status but `Memory` and `LogFull` has its cause.
     ensures bad_words { (result.status ≡ Status.BadWords) ↔ (is_command words.now ≡ false) }
     ensures bad_script { (byte : ℕ) (why : Reason) → result.status ≡ Status.BadScript byte why → S.tells → IsBadAt (S.left script.old) byte × (why ≡ Why.Wrong) }
     ensures too_long { result.status ≡ Status.TooLong → S.tells → MOST_BYTES < length (S.left script.old) }
-    ensures read { has_read result.status ≡ true → S.tells → length (S.left script.old) ≤ MOST_BYTES }
+    ensures read { is_run words.now ≡ true → has_read result.status ≡ true → S.tells → length (S.left script.old) ≤ MOST_BYTES }
     ensures source_fault { result.status ≡ Status.SourceFault → Rose (S.fault_count script.old) (S.fault_count script.new) }
     ensures sink_fault { result.status ≡ Status.SinkFault → Rose (K.fault_count out) (K.fault_count result.out) }
-
-    ensures disk { result.disk ≡ disk }
+    ensures disk_fault { result.status ≡ Status.DiskFault → Rose (D.fault_count disk) (D.fault_count result.disk) }
+    ensures not_formatted { result.status ≡ Status.NotFormatted → D.tells → Refuses (D.image disk) OpenFault.NotFormatted }
+    ensures damaged { (place : Spot) → result.status ≡ Status.Damaged place → D.tells → Refuses (D.image disk) (OpenFault.Damaged place) }
 {
     let _ = gate;
-    let moment = disk.moment();
-    let mut runner = Runner::new(alloc);
+    let mut disk = disk;
     let mut printer = Printer::new(alloc, out);
-    let status = answer(alloc, words, script, moment, &mut runner, &mut printer);
-    let out = finish(printer, &status);
-    let (journal, given) = runner.into_parts();
+    let ran = answer(alloc, words, script, &mut disk, &mut printer);
+    let out = finish(printer, &ran.status);
     Ended {
-        status,
+        status: ran.status,
         disk,
         out,
-        journal,
-        given,
+        journal: ran.journal,
+        given: ran.given,
     }
 }

@@ -1,6 +1,6 @@
 //! The text of replies and of statuses, put to a printer. None of these takes memory.
 ghost use Rattle.std.specs.Prelude.{◌≡◌, ◌++◌, List, ℕ, [], ◌∷◌, codes, length};
-ghost use Rattle.ids_model.specs.Text.{escaped, value_text, row_text, head_text, line, rows_text, count_text, reply_text, given_text};
+ghost use Rattle.ids_model.specs.Text.{escaped, value_text, row_text, head_text, line, rows_text, count_text, no_space_text, reply_text, given_text};
 ghost use Rattle.ids_server.specs.Printing.{PrinterPuts};
 ghost use Rattle.ids_server.specs.Lines.{why_text, place_text, status_line};
 
@@ -108,6 +108,16 @@ fn put_selected<K: Sink>(printer: &mut Printer<K>, session: u32, number: u32, ro
     put_count(printer, session, number, rows.len() as u64);
 }
 
+fn put_no_space<K: Sink>(printer: &mut Printer<K>, session: u32, number: u32, rows: u64, pages: u64)
+    ensures { PrinterPuts K.tells K.taken K.fault_count printer.old printer.new (line (head_text session number) (no_space_text rows pages)) }
+{
+    put_head(printer, session, number);
+    put_named(printer, b"error no space rows ", rows);
+    printer.put(b" pages ");
+    put_number(printer, pages);
+    printer.put(b"\n");
+}
+
 /// Puts the lines of a reply.
 pub fn put_reply<K: Sink>(printer: &mut Printer<K>, session: u32, number: u32, reply: &Reply)
     ensures { PrinterPuts K.tells K.taken K.fault_count printer.old printer.new (reply_text (head_text session number) reply.now) }
@@ -118,12 +128,14 @@ pub fn put_reply<K: Sink>(printer: &mut Printer<K>, session: u32, number: u32, r
         Reply::Selected(rows) => put_selected(printer, session, number, rows.as_slice()),
         Reply::Begun => put_line(printer, session, number, b"begun"),
         Reply::Committed => put_line(printer, session, number, b"committed"),
+        Reply::RolledBack => put_line(printer, session, number, b"rolled back"),
         Reply::NotInTx => put_line(printer, session, number, b"error -255"),
         Reply::InTx => put_line(printer, session, number, b"error -535"),
         Reply::Duplicate => put_line(printer, session, number, b"error duplicate"),
         Reply::NoTable => put_line(printer, session, number, b"error no table"),
         Reply::TableExists => put_line(printer, session, number, b"error table exists"),
         Reply::BadShape => put_line(printer, session, number, b"error bad shape"),
+        Reply::NoSpace { rows, pages } => put_no_space(printer, session, number, *rows, *pages),
     }
 }
 

@@ -101,9 +101,9 @@ rows_separate place.InsertValues = refl
 rows_separate place.Value = refl
 rows_separate place.ValueEnd = refl
 rows_separate place.Select = refl
-rows_separate place.SelectWhat = refl
-rows_separate place.SelectFrom = refl
-rows_separate place.SelectTable = refl
+rows_separate place.Rows = refl
+rows_separate place.RowsFrom = refl
+rows_separate place.RowsTable = refl
 rows_separate place.Where = refl
 rows_separate place.TermName = refl
 rows_separate place.TermValue = refl
@@ -137,9 +137,9 @@ rows_follow place.InsertValues = refl
 rows_follow place.Value = refl
 rows_follow place.ValueEnd = refl
 rows_follow place.Select = refl
-rows_follow place.SelectWhat = refl
-rows_follow place.SelectFrom = refl
-rows_follow place.SelectTable = refl
+rows_follow place.Rows = refl
+rows_follow place.RowsFrom = refl
+rows_follow place.RowsTable = refl
 rows_follow place.Where = refl
 rows_follow place.TermName = refl
 rows_follow place.TermValue = refl
@@ -338,8 +338,8 @@ end_NextCharOpen = ((Sign sign.Open) ∷ end_NextCharSize.0, (place.NextCharSize
 end_InsertName : Ending place.InsertName
 end_InsertName = ((Word keyword.Values) ∷ end_InsertValues.0, (place.InsertValues, inl (refl, refl), end_InsertValues.1))
 
-end_SelectTable : Ending place.SelectTable
-end_SelectTable = ((Word keyword.Where) ∷ end_Where.0, (place.Where, inl (refl, refl), end_Where.1))
+end_RowsTable : Ending place.RowsTable
+end_RowsTable = ((Word keyword.Where) ∷ end_Where.0, (place.Where, inl (refl, refl), end_Where.1))
 
 end_CreateTable : Ending place.CreateTable
 end_CreateTable = ((Name) ∷ end_CreateName.0, (place.CreateName, inl (refl, refl), end_CreateName.1))
@@ -347,8 +347,8 @@ end_CreateTable = ((Name) ∷ end_CreateName.0, (place.CreateName, inl (refl, re
 end_InsertInto : Ending place.InsertInto
 end_InsertInto = ((Name) ∷ end_InsertName.0, (place.InsertName, inl (refl, refl), end_InsertName.1))
 
-end_SelectFrom : Ending place.SelectFrom
-end_SelectFrom = ((Name) ∷ end_SelectTable.0, (place.SelectTable, inl (refl, refl), end_SelectTable.1))
+end_RowsFrom : Ending place.RowsFrom
+end_RowsFrom = ((Name) ∷ end_RowsTable.0, (place.RowsTable, inl (refl, refl), end_RowsTable.1))
 
 end_Create : Ending place.Create
 end_Create = ((Word keyword.Table) ∷ end_CreateTable.0, (place.CreateTable, inl (refl, refl), end_CreateTable.1))
@@ -356,11 +356,11 @@ end_Create = ((Word keyword.Table) ∷ end_CreateTable.0, (place.CreateTable, in
 end_Insert : Ending place.Insert
 end_Insert = ((Word keyword.Into) ∷ end_InsertInto.0, (place.InsertInto, inl (refl, refl), end_InsertInto.1))
 
-end_SelectWhat : Ending place.SelectWhat
-end_SelectWhat = ((Word keyword.From) ∷ end_SelectFrom.0, (place.SelectFrom, inl (refl, refl), end_SelectFrom.1))
+end_Rows : Ending place.Rows
+end_Rows = ((Word keyword.From) ∷ end_RowsFrom.0, (place.RowsFrom, inl (refl, refl), end_RowsFrom.1))
 
 end_Select : Ending place.Select
-end_Select = ((Sign sign.Star) ∷ end_SelectWhat.0, (place.SelectWhat, inl (refl, refl), end_SelectWhat.1))
+end_Select = ((Sign sign.Star) ∷ end_Rows.0, (place.Rows, inl (refl, refl), end_Rows.1))
 
 pub ending : (q : Place) → Ending q
 ending place.LineStart = end_LineStart
@@ -391,9 +391,9 @@ ending place.InsertValues = end_InsertValues
 ending place.Value = end_Value
 ending place.ValueEnd = end_ValueEnd
 ending place.Select = end_Select
-ending place.SelectWhat = end_SelectWhat
-ending place.SelectFrom = end_SelectFrom
-ending place.SelectTable = end_SelectTable
+ending place.Rows = end_Rows
+ending place.RowsFrom = end_RowsFrom
+ending place.RowsTable = end_RowsTable
 ending place.Where = end_Where
 ending place.TermName = end_TermName
 ending place.TermValue = end_TermValue

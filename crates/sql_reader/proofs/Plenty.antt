@@ -4,9 +4,9 @@ use Rattle.std.specs.List.{filter}
 use Rattle.std.proofs.lemmas.List.{append-nil}
 use Rattle.ids_base.specs.declared.plan.Comparison.TheVariants.{Equal}
 use Rattle.ids_base.specs.declared.plan.DataStatement.{DataStatement}
-use Rattle.ids_base.specs.declared.plan.DataStatement.TheVariants.{CreateTable, Insert, Select}
+use Rattle.ids_base.specs.declared.plan.DataStatement.TheVariants.{CreateTable, Insert, Select, Delete}
 use Rattle.ids_base.specs.declared.plan.Plan.{Plan}
-use Rattle.ids_base.specs.declared.plan.Plan.TheVariants.{Data, Begin, Commit}
+use Rattle.ids_base.specs.declared.plan.Plan.TheVariants.{Data, Begin, Commit, Rollback}
 use Rattle.ids_base.specs.declared.shape.Kind.{Kind as ColumnKind}
 use Rattle.ids_base.specs.declared.shape.Kind.TheVariants.{Integer, Char}
 use Rattle.ids_base.specs.declared.shape.Column.{Column}
@@ -22,7 +22,7 @@ use Rattle.sql_reader.specs.declared.token.Sign.TheVariants as sign
 use Rattle.sql_reader.specs.Form.{kinds}
 use Rattle.sql_reader.specs.Ebnf.{Grammar, nothing, token, both, either, many, Pieces, done, piece, Derives, optional}
 use Rattle.sql_reader.specs.Tokens.{lower, value as digits_value}
-use Rattle.sql_reader.specs.Grammar.{column, create, value, insert, select, statement, statement_line, IsLine, IsStatementText, IsReading}
+use Rattle.sql_reader.specs.Grammar.{column, create, value, insert, select, delete, statement, statement_line, IsLine, IsStatementText, IsReading}
 use Rattle.sql_reader.specs.Lines.{AreLines, InGrammar, lines_of, is_statement_line, statements_of, sessions}
 use Rattle.sql_reader.specs.Plans.{Item, says_word, says_name, says_size, signed_value, size_of, text_value, word_items, sign_items, token_items, items_of_tokens, value_item, kind_items, column_items, shape_items, row_items, statement_items, items_of_plan, IsPlanOf, Each, IsScriptOf}
 use Rattle.sql_reader.proofs.Table.{some_reading}
@@ -196,7 +196,18 @@ tells_select = tells_as (List ℕ × (List ℕ × (List ℕ × (List ℕ × (Lis
     (tells_both (List ℕ) (List ℕ × Value) _ _ _ _ tells_name
     (tells_both (List ℕ) Value _ _ _ _ (tells_sign sign.Equal) tells_value)))))))
 
--- BEGIN or COMMIT
+tells_delete : Tells DataStatement delete statement_items
+tells_delete = tells_as (List ℕ × (List ℕ × (List ℕ × (List ℕ × (List ℕ × (List ℕ × Value)))))) DataStatement delete
+    (λ x. word_items keyword.Delete ++ (word_items keyword.From ++ ((says_name x.1.1.0 ∷ []) ++ (word_items keyword.Where ++ ((says_name x.1.1.1.1.0 ∷ []) ++ (sign_items sign.Equal ++ (value_item x.1.1.1.1.1.1 ∷ [])))))))
+    statement_items (λ x. Delete x.1.1.0 (record { column = x.1.1.1.1.0; comparison = Equal; value = x.1.1.1.1.1.1 } ∷ [])) (λ x. refl)
+    (tells_both (List ℕ) (List ℕ × (List ℕ × (List ℕ × (List ℕ × (List ℕ × Value))))) _ _ _ _ (tells_word keyword.Delete)
+    (tells_both (List ℕ) (List ℕ × (List ℕ × (List ℕ × (List ℕ × Value)))) _ _ _ _ (tells_word keyword.From)
+    (tells_both (List ℕ) (List ℕ × (List ℕ × (List ℕ × Value))) _ _ _ _ tells_name
+    (tells_both (List ℕ) (List ℕ × (List ℕ × Value)) _ _ _ _ (tells_word keyword.Where)
+    (tells_both (List ℕ) (List ℕ × Value) _ _ _ _ tells_name
+    (tells_both (List ℕ) Value _ _ _ _ (tells_sign sign.Equal) tells_value))))))
+
+-- BEGIN, COMMIT or ROLLBACK
 tells_bare : (w : Keyword) (plan : Plan) → word_items w ++ [] ≡ items_of_plan plan → Tells Plan (both (token (Word w)) (optional (token (Word keyword.Work)))) items_of_plan
 tells_bare w plan e = tells_as (List ℕ × List ℕ) Plan _ (λ x. word_items w ++ []) items_of_plan (λ x. plan) (λ x. e)
     (tells_both (List ℕ) (List ℕ) _ _ _ _ (tells_word w) (silently (token (Word keyword.Work)) (tells_word keyword.Work)))
@@ -207,8 +218,10 @@ tells_data g u = tells_as DataStatement Plan g statement_items items_of_plan Dat
 tells_statement : Tells Plan statement items_of_plan
 tells_statement = tells_either Plan _ _ items_of_plan (tells_bare keyword.Begin Begin refl)
     (tells_either Plan _ _ items_of_plan (tells_bare keyword.Commit Commit refl)
+    (tells_either Plan _ _ items_of_plan (tells_bare keyword.Rollback Rollback refl)
     (tells_either Plan _ _ items_of_plan (tells_data create tells_create)
-    (tells_either Plan insert select items_of_plan (tells_data insert tells_insert) (tells_data select tells_select))))
+    (tells_either Plan _ _ items_of_plan (tells_data insert tells_insert)
+    (tells_either Plan select delete items_of_plan (tells_data select tells_select) (tells_data delete tells_delete))))))
 
 tells_statement_line : Tells Plan statement_line items_of_plan
 tells_statement_line = tells_as (Plan × List ℕ) Plan statement_line (λ x. items_of_plan x.0 ++ []) items_of_plan (λ x. x.0) (λ x. append-nil (items_of_plan x.0))

@@ -31,16 +31,19 @@ abbrev e_Begin : Grammar Kind
 e_Begin = at_head zero (heads e_LineStart)
 
 abbrev e_Create : Grammar Kind
-e_Create = at_head (suc (suc zero)) (heads e_LineStart)
+e_Create = at_head (suc (suc (suc zero))) (heads e_LineStart)
 
 abbrev e_Insert : Grammar Kind
-e_Insert = at_head (suc (suc (suc zero))) (heads e_LineStart)
+e_Insert = at_head (suc (suc (suc (suc zero)))) (heads e_LineStart)
 
 abbrev e_Select : Grammar Kind
-e_Select = at_head (suc (suc (suc (suc zero)))) (heads e_LineStart)
+e_Select = at_head (suc (suc (suc (suc (suc zero))))) (heads e_LineStart)
+
+abbrev e_Rows : Grammar Kind
+e_Rows = at_head (suc (suc (suc (suc (suc (suc zero)))))) (heads e_LineStart)
 
 abbrev e_LineEnd : Grammar Kind
-e_LineEnd = at_head (suc (suc (suc (suc (suc zero))))) (heads e_LineStart)
+e_LineEnd = at_head (suc (suc (suc (suc (suc (suc (suc zero))))))) (heads e_LineStart)
 
 abbrev e_StatementEnd : Grammar Kind
 e_StatementEnd = at_head zero (heads e_Begin)
@@ -51,8 +54,8 @@ e_CreateTable = at_head zero (heads e_Create)
 abbrev e_InsertInto : Grammar Kind
 e_InsertInto = at_head zero (heads e_Insert)
 
-abbrev e_SelectWhat : Grammar Kind
-e_SelectWhat = at_head zero (heads e_Select)
+abbrev e_RowsFrom : Grammar Kind
+e_RowsFrom = at_head zero (heads e_Rows)
 
 abbrev e_CreateName : Grammar Kind
 e_CreateName = at_head zero (heads e_CreateTable)
@@ -60,8 +63,8 @@ e_CreateName = at_head zero (heads e_CreateTable)
 abbrev e_InsertName : Grammar Kind
 e_InsertName = at_head zero (heads e_InsertInto)
 
-abbrev e_SelectFrom : Grammar Kind
-e_SelectFrom = at_head zero (heads e_SelectWhat)
+abbrev e_RowsTable : Grammar Kind
+e_RowsTable = at_head zero (heads e_RowsFrom)
 
 abbrev e_Column : Grammar Kind
 e_Column = at_head zero (heads e_CreateName)
@@ -69,8 +72,8 @@ e_Column = at_head zero (heads e_CreateName)
 abbrev e_InsertValues : Grammar Kind
 e_InsertValues = at_head zero (heads e_InsertName)
 
-abbrev e_SelectTable : Grammar Kind
-e_SelectTable = at_head zero (heads e_SelectFrom)
+abbrev e_Where : Grammar Kind
+e_Where = at_head zero (heads e_RowsTable)
 
 abbrev e_ColumnKind : Grammar Kind
 e_ColumnKind = at_head zero (heads e_Column)
@@ -78,8 +81,8 @@ e_ColumnKind = at_head zero (heads e_Column)
 abbrev e_Value : Grammar Kind
 e_Value = at_head zero (heads e_InsertValues)
 
-abbrev e_Where : Grammar Kind
-e_Where = at_head zero (heads e_SelectTable)
+abbrev e_TermName : Grammar Kind
+e_TermName = at_head zero (heads e_Where)
 
 abbrev e_ColumnEnd : Grammar Kind
 e_ColumnEnd = at_head zero (heads e_ColumnKind)
@@ -90,8 +93,8 @@ e_CharOpen = at_head (suc zero) (heads e_ColumnKind)
 abbrev e_ValueEnd : Grammar Kind
 e_ValueEnd = at_head zero (heads e_Value)
 
-abbrev e_TermName : Grammar Kind
-e_TermName = at_head zero (heads e_Where)
+abbrev e_TermValue : Grammar Kind
+e_TermValue = at_head zero (heads e_TermName)
 
 abbrev e_Primary : Grammar Kind
 e_Primary = at_head zero (heads e_ColumnEnd)
@@ -101,9 +104,6 @@ e_Next = at_head (suc zero) (heads e_ColumnEnd)
 
 abbrev e_CharSize : Grammar Kind
 e_CharSize = at_head zero (heads e_CharOpen)
-
-abbrev e_TermValue : Grammar Kind
-e_TermValue = at_head zero (heads e_TermName)
 
 abbrev e_NextEnd : Grammar Kind
 e_NextEnd = at_head zero (heads e_Primary)
@@ -152,9 +152,9 @@ rest place.InsertValues = e_InsertValues
 rest place.Value = e_Value
 rest place.ValueEnd = e_ValueEnd
 rest place.Select = e_Select
-rest place.SelectWhat = e_SelectWhat
-rest place.SelectFrom = e_SelectFrom
-rest place.SelectTable = e_SelectTable
+rest place.Rows = e_Rows
+rest place.RowsFrom = e_RowsFrom
+rest place.RowsTable = e_RowsTable
 rest place.Where = e_Where
 rest place.TermName = e_TermName
 rest place.TermValue = e_TermValue
@@ -188,9 +188,9 @@ rows place.InsertValues = refl
 rows place.Value = refl
 rows place.ValueEnd = refl
 rows place.Select = refl
-rows place.SelectWhat = refl
-rows place.SelectFrom = refl
-rows place.SelectTable = refl
+rows place.Rows = refl
+rows place.RowsFrom = refl
+rows place.RowsTable = refl
 rows place.Where = refl
 rows place.TermName = refl
 rows place.TermValue = refl
@@ -224,9 +224,9 @@ lasts place.InsertValues = refl
 lasts place.Value = refl
 lasts place.ValueEnd = refl
 lasts place.Select = refl
-lasts place.SelectWhat = refl
-lasts place.SelectFrom = refl
-lasts place.SelectTable = refl
+lasts place.Rows = refl
+lasts place.RowsFrom = refl
+lasts place.RowsTable = refl
 lasts place.Where = refl
 lasts place.TermName = refl
 lasts place.TermValue = refl

@@ -2,16 +2,18 @@
 use Rattle.std.proofs.Common.{◌≡◌, ℕ, zero, suc, ◌<◌, List, [], ◌∷◌, ◌++◌, length, get_or, arith, refl, sym, ◌∙◌, ap}
 use Rattle.ids_base.specs.declared.plan.Term.{Term}
 use Rattle.ids_base.specs.declared.plan.DataStatement.{DataStatement}
-use Rattle.ids_base.specs.declared.plan.DataStatement.TheVariants.{CreateTable, Insert, Select}
+use Rattle.ids_base.specs.declared.plan.DataStatement.TheVariants.{CreateTable, Insert, Select, Delete}
 use Rattle.ids_base.specs.declared.plan.Plan.{Plan}
-use Rattle.ids_base.specs.declared.plan.Plan.TheVariants.{Data, Begin, Commit}
+use Rattle.ids_base.specs.declared.plan.Plan.TheVariants.{Data, Begin, Commit, Rollback}
 use Rattle.ids_base.specs.declared.shape.Kind.{Kind as ColumnKind}
 use Rattle.ids_base.specs.declared.shape.Kind.TheVariants.{Integer, Char}
 use Rattle.ids_base.specs.declared.shape.Column.{Column}
 use Rattle.ids_base.specs.declared.value.Value.{Value}
 use Rattle.ids_base.specs.declared.value.Value.TheVariants.{Int, Chars}
+use Rattle.sql_reader.specs.declared.token.Keyword.{Keyword}
+use Rattle.sql_reader.specs.declared.token.Keyword.TheVariants as keyword
 use Rattle.sql_reader.specs.Lines.{texts_of, sessions_in, statements_in, text_in}
-use Rattle.sql_reader.specs.Plans.{Item, says_name, value_item, kind_items, shape_items, row_items, all_term_items, condition_items, statement_items, items_of_plan, items_of_tokens, IsPlanOf, Each, IsScriptOf, plans_in}
+use Rattle.sql_reader.specs.Plans.{Item, says_word, says_name, value_item, kind_items, shape_items, row_items, all_term_items, condition_items, statement_items, items_of_plan, items_of_tokens, IsPlanOf, Each, IsScriptOf, plans_in}
 use Rattle.sql_reader.proofs.Table.{only_reading}
 
 value_same : (a b : Value) → value_item a ≡ value_item b → a ≡ b
@@ -83,31 +85,44 @@ statement_same : (x y : DataStatement) → statement_items x ≡ statement_items
 statement_same (CreateTable a xs) (CreateTable b ys) e = let h : a ≡ b = cc in let t : shape_items xs ≡ shape_items ys = cc in ap (λ v. CreateTable v xs) h ∙ ap (λ v. CreateTable b v) (shape_same xs ys t)
 statement_same (CreateTable a xs) (Insert b ys) e = cc
 statement_same (CreateTable a xs) (Select b ys) e = cc
+statement_same (CreateTable a xs) (Delete b ys) e = cc
 statement_same (Insert a xs) (CreateTable b ys) e = cc
 statement_same (Insert a xs) (Insert b ys) e = let h : a ≡ b = cc in let t : row_items xs ≡ row_items ys = cc in ap (λ v. Insert v xs) h ∙ ap (λ v. Insert b v) (row_same xs ys t)
 statement_same (Insert a xs) (Select b ys) e = cc
+statement_same (Insert a xs) (Delete b ys) e = cc
 statement_same (Select a xs) (CreateTable b ys) e = cc
 statement_same (Select a xs) (Insert b ys) e = cc
 statement_same (Select a xs) (Select b ys) e = let h : a ≡ b = cc in let t : condition_items xs ≡ condition_items ys = cc in ap (λ v. Select v xs) h ∙ ap (λ v. Select b v) (condition_same xs ys t)
+statement_same (Select a xs) (Delete b ys) e = cc
+statement_same (Delete a xs) (CreateTable b ys) e = cc
+statement_same (Delete a xs) (Insert b ys) e = cc
+statement_same (Delete a xs) (Select b ys) e = cc
+statement_same (Delete a xs) (Delete b ys) e = let h : a ≡ b = cc in let t : condition_items xs ≡ condition_items ys = cc in ap (λ v. Delete v xs) h ∙ ap (λ v. Delete b v) (condition_same xs ys t)
+
+-- a statement over tables says more than its first word
+no_bare : (x : DataStatement) (w : Keyword) → statement_items x ≡ says_word w ∷ [] → ⊥
+no_bare (CreateTable a xs) w e = cc
+no_bare (Insert a xs) w e = cc
+no_bare (Select a xs) w e = cc
+no_bare (Delete a xs) w e = cc
 
 plan_same : (p q : Plan) → items_of_plan p ≡ items_of_plan q → p ≡ q
 plan_same (Data x) (Data y) e = ap Data (statement_same x y e)
-plan_same (Data (CreateTable a xs)) Begin e = cc
-plan_same (Data (Insert a xs)) Begin e = cc
-plan_same (Data (Select a xs)) Begin e = cc
-plan_same (Data (CreateTable a xs)) Commit e = cc
-plan_same (Data (Insert a xs)) Commit e = cc
-plan_same (Data (Select a xs)) Commit e = cc
-plan_same Begin (Data (CreateTable a xs)) e = cc
-plan_same Begin (Data (Insert a xs)) e = cc
-plan_same Begin (Data (Select a xs)) e = cc
+plan_same (Data x) Begin e = absurd (no_bare x keyword.Begin e)
+plan_same (Data x) Commit e = absurd (no_bare x keyword.Commit e)
+plan_same (Data x) Rollback e = absurd (no_bare x keyword.Rollback e)
+plan_same Begin (Data y) e = absurd (no_bare y keyword.Begin (sym e))
 plan_same Begin Begin e = refl
 plan_same Begin Commit e = cc
-plan_same Commit (Data (CreateTable a xs)) e = cc
-plan_same Commit (Data (Insert a xs)) e = cc
-plan_same Commit (Data (Select a xs)) e = cc
+plan_same Begin Rollback e = cc
+plan_same Commit (Data y) e = absurd (no_bare y keyword.Commit (sym e))
 plan_same Commit Begin e = cc
 plan_same Commit Commit e = refl
+plan_same Commit Rollback e = cc
+plan_same Rollback (Data y) e = absurd (no_bare y keyword.Rollback (sym e))
+plan_same Rollback Begin e = cc
+plan_same Rollback Commit e = cc
+plan_same Rollback Rollback e = refl
 
 pub one_plan : (bytes : List ℕ) (p q : Plan) → IsPlanOf bytes p → IsPlanOf bytes q → p ≡ q
 one_plan bytes p q (ts, a, s) (us, b, t) = plan_same p q (sym s ∙ ap items_of_tokens (only_reading bytes ts us a b) ∙ t)

@@ -11,7 +11,7 @@ use Rattle.sql_reader.specs.declared.token.Sign.TheVariants as sign
 use Rattle.ids_base.specs.declared.plan.Plan.{Plan}
 use Rattle.ids_base.specs.declared.plan.Term.{Term}
 use Rattle.ids_base.specs.declared.plan.DataStatement.{DataStatement}
-use Rattle.ids_base.specs.declared.plan.DataStatement.TheVariants.{CreateTable, Insert, Select}
+use Rattle.ids_base.specs.declared.plan.DataStatement.TheVariants.{CreateTable, Insert, Select, Delete}
 use Rattle.ids_base.specs.declared.shape.Column.{Column}
 use Rattle.ids_base.specs.declared.value.Value.{Value}
 use Rattle.sql_reader.specs.declared.place.Place.{Place}
@@ -123,12 +123,15 @@ went_column a b c d shape more column u v w e = went_as a d _ _ (ap (λ x. shape
 pub went_value : (a b c d : Reader) (values more : List Value) (value : Value) → Went a b (row_items values) → Went b c (value_item value ∷ []) → Went c d [] → more ≡ values ++ (value ∷ []) → Went a d (row_items more)
 went_value a b c d values more value u v w e = went_as a d _ _ (sym (ap row_items e ∙ row_snoc values value)) (went_on a b d (row_items values) (value_item value ∷ []) u (went_on b c d (value_item value ∷ []) [] v w))
 
-pub behind_select : (old new : Reader) (table : List ℕ) (condition : List Term) (term : Term) → condition ≡ term ∷ [] → Went old new (says_all ∷ says_word keyword.From ∷ says_name table ∷ condition_items (term ∷ [])) → IsBehind keyword.Select old new (Select table condition)
-behind_select old new table condition term e w = record {
-  items = says_all ∷ says_word keyword.From ∷ says_name table ∷ condition_items (term ∷ []);
-  went = w;
-  says = ap (λ v. statement_items (Select table v)) (sym e);
-}
+pub behind_select : (old new : Reader) (table : List ℕ) (condition : List Term) → Went old new (says_all ∷ says_word keyword.From ∷ says_name table ∷ condition_items condition) → IsBehind keyword.Select old new (Select table condition)
+behind_select old new table condition w = record { items = says_all ∷ says_word keyword.From ∷ says_name table ∷ condition_items condition; went = w; says = refl }
+
+pub behind_delete : (old new : Reader) (table : List ℕ) (condition : List Term) → Went old new (says_word keyword.From ∷ says_name table ∷ condition_items condition) → IsBehind keyword.Delete old new (Delete table condition)
+behind_delete old new table condition w = record { items = says_word keyword.From ∷ says_name table ∷ condition_items condition; went = w; says = refl }
+
+-- a condition of one term
+pub went_condition : (old new : Reader) (condition : List Term) (term : Term) → condition ≡ term ∷ [] → Went old new (condition_items (term ∷ [])) → Went old new (condition_items condition)
+went_condition old new condition term e w = went_as old new _ _ (ap condition_items (sym e)) w
 
 -- a shape or a row, read so far
 pub record Listing (start now : Reader) (items : List Item) (more : Bool) (next : Place) : Type 0 where
@@ -155,17 +158,19 @@ kind_char q size close end w r k i no_integer = by_row (subst (λ v. InRow v (Wo
     by_row (inr (inl e)) = (sym (same_word _ _ e.0), subst (λ v. IsOnly v (Sign sign.Open) size) e.1 k.3)
     by_row (inr (inr e)) = absurd e
 
--- the last of the words that begin a statement
-pub statement_select : (q : Place) (w : Keyword) (r : Place) → q ≡ place.StatementStart → InRow (row q) (Word w) r → (w ≡ keyword.Begin → ⊥) → (w ≡ keyword.Commit → ⊥) → (w ≡ keyword.Create → ⊥) → (w ≡ keyword.Insert → ⊥) → (w ≡ keyword.Select) × (r ≡ place.Select)
-statement_select q w r at i a b c d = by_row (subst (λ v. InRow (row v) (Word w) r) at i)
+-- a word that begins a statement and is none of the others is SELECT
+pub statement_select : (q : Place) (w : Keyword) (r : Place) → q ≡ place.StatementStart → InRow (row q) (Word w) r → (w ≡ keyword.Begin → ⊥) → (w ≡ keyword.Commit → ⊥) → (w ≡ keyword.Rollback → ⊥) → (w ≡ keyword.Create → ⊥) → (w ≡ keyword.Insert → ⊥) → (w ≡ keyword.Delete → ⊥) → (w ≡ keyword.Select) × (r ≡ place.Select)
+statement_select q w r at i a b c d f g = by_row (subst (λ v. InRow (row v) (Word w) r) at i)
   where
     by_row : InRow (row place.StatementStart) (Word w) r → (w ≡ keyword.Select) × (r ≡ place.Select)
     by_row (inl e) = absurd (a (sym (same_word _ _ e.0)))
     by_row (inr (inl e)) = absurd (b (sym (same_word _ _ e.0)))
     by_row (inr (inr (inl e))) = absurd (c (sym (same_word _ _ e.0)))
     by_row (inr (inr (inr (inl e)))) = absurd (d (sym (same_word _ _ e.0)))
-    by_row (inr (inr (inr (inr (inl e))))) = (sym (same_word _ _ e.0), sym e.1)
-    by_row (inr (inr (inr (inr (inr e))))) = absurd e
+    by_row (inr (inr (inr (inr (inl e))))) = absurd (f (sym (same_word _ _ e.0)))
+    by_row (inr (inr (inr (inr (inr (inl e)))))) = (sym (same_word _ _ e.0), sym e.1)
+    by_row (inr (inr (inr (inr (inr (inr (inl e))))))) = absurd (g (sym (same_word _ _ e.0)))
+    by_row (inr (inr (inr (inr (inr (inr (inr e))))))) = absurd e
 
 pub went_behind : (a b c : Reader) (w : Keyword) (statement : DataStatement) → Went a b (says_word w ∷ []) → IsBehind w b c statement → Went a c (statement_items statement)
 went_behind a b c w statement v i = went_as a c _ _ i.says (went_on a b c (says_word w ∷ []) i.items v i.went)

@@ -42,10 +42,16 @@ abbrev pub select : Grammar Kind
 select = token (Word keyword.Select) then token (Sign sign.Star) then token (Word keyword.From) then token Name
     then token (Word keyword.Where) then token Name then token (Sign sign.Equal) then value
 
+-- DELETE FROM name WHERE name = value
+abbrev pub delete : Grammar Kind
+delete = token (Word keyword.Delete) then token (Word keyword.From) then token Name
+    then token (Word keyword.Where) then token Name then token (Sign sign.Equal) then value
+
 abbrev pub statement : Grammar Kind
 statement = (token (Word keyword.Begin) then optional (token (Word keyword.Work)))
     or (token (Word keyword.Commit) then optional (token (Word keyword.Work)))
-    or create or insert or select
+    or (token (Word keyword.Rollback) then optional (token (Word keyword.Work)))
+    or create or insert or select or delete
 
 -- a statement with an optional `;`
 abbrev pub statement_line : Grammar Kind

@@ -11,8 +11,8 @@ use Rattle.sql_reader.specs.Tokens.{whole, begins, is_blank, clings, edge}
 
 -- which tokens may come at a place, and where each leads
 abbrev pub row : Place → List (Kind × Place)
-row place.LineStart = (Word keyword.Begin, place.Begin) ∷ (Word keyword.Commit, place.Begin) ∷ (Word keyword.Create, place.Create) ∷ (Word keyword.Insert, place.Insert) ∷ (Word keyword.Select, place.Select) ∷ (Comment, place.LineEnd) ∷ []
-row place.StatementStart = (Word keyword.Begin, place.Begin) ∷ (Word keyword.Commit, place.Begin) ∷ (Word keyword.Create, place.Create) ∷ (Word keyword.Insert, place.Insert) ∷ (Word keyword.Select, place.Select) ∷ []
+row place.LineStart = (Word keyword.Begin, place.Begin) ∷ (Word keyword.Commit, place.Begin) ∷ (Word keyword.Rollback, place.Begin) ∷ (Word keyword.Create, place.Create) ∷ (Word keyword.Insert, place.Insert) ∷ (Word keyword.Select, place.Select) ∷ (Word keyword.Delete, place.Rows) ∷ (Comment, place.LineEnd) ∷ []
+row place.StatementStart = (Word keyword.Begin, place.Begin) ∷ (Word keyword.Commit, place.Begin) ∷ (Word keyword.Rollback, place.Begin) ∷ (Word keyword.Create, place.Create) ∷ (Word keyword.Insert, place.Insert) ∷ (Word keyword.Select, place.Select) ∷ (Word keyword.Delete, place.Rows) ∷ []
 row place.LineEnd = []
 row place.StatementEnd = (Sign sign.Semicolon, place.LineEnd) ∷ []
 row place.Begin = (Word keyword.Work, place.StatementEnd) ∷ (Sign sign.Semicolon, place.LineEnd) ∷ []
@@ -38,10 +38,10 @@ row place.InsertName = (Word keyword.Values, place.InsertValues) ∷ []
 row place.InsertValues = (Sign sign.Open, place.Value) ∷ []
 row place.Value = (Signed, place.ValueEnd) ∷ (Text, place.ValueEnd) ∷ []
 row place.ValueEnd = (Sign sign.Comma, place.Value) ∷ (Sign sign.Close, place.StatementEnd) ∷ []
-row place.Select = (Sign sign.Star, place.SelectWhat) ∷ []
-row place.SelectWhat = (Word keyword.From, place.SelectFrom) ∷ []
-row place.SelectFrom = (Name, place.SelectTable) ∷ []
-row place.SelectTable = (Word keyword.Where, place.Where) ∷ []
+row place.Select = (Sign sign.Star, place.Rows) ∷ []
+row place.Rows = (Word keyword.From, place.RowsFrom) ∷ []
+row place.RowsFrom = (Name, place.RowsTable) ∷ []
+row place.RowsTable = (Word keyword.Where, place.Where) ∷ []
 row place.Where = (Name, place.TermName) ∷ []
 row place.TermName = (Sign sign.Equal, place.TermValue) ∷ []
 row place.TermValue = (Signed, place.StatementEnd) ∷ (Text, place.StatementEnd) ∷ []
@@ -76,9 +76,9 @@ ends place.InsertValues = false
 ends place.Value = false
 ends place.ValueEnd = false
 ends place.Select = false
-ends place.SelectWhat = false
-ends place.SelectFrom = false
-ends place.SelectTable = false
+ends place.Rows = false
+ends place.RowsFrom = false
+ends place.RowsTable = false
 ends place.Where = false
 ends place.TermName = false
 ends place.TermValue = false

@@ -4,9 +4,9 @@ use Rattle.ids_base.specs.declared.plan.Comparison.{Comparison}
 use Rattle.ids_base.specs.declared.plan.Comparison.TheVariants.{Equal}
 use Rattle.ids_base.specs.declared.plan.Term.{Term}
 use Rattle.ids_base.specs.declared.plan.DataStatement.{DataStatement}
-use Rattle.ids_base.specs.declared.plan.DataStatement.TheVariants.{CreateTable, Insert, Select}
+use Rattle.ids_base.specs.declared.plan.DataStatement.TheVariants.{CreateTable, Insert, Select, Delete}
 use Rattle.ids_base.specs.declared.plan.Plan.{Plan}
-use Rattle.ids_base.specs.declared.plan.Plan.TheVariants.{Data, Begin, Commit}
+use Rattle.ids_base.specs.declared.plan.Plan.TheVariants.{Data, Begin, Commit, Rollback}
 use Rattle.ids_base.specs.declared.shape.Kind.{Kind as ColumnKind}
 use Rattle.ids_base.specs.declared.shape.Kind.TheVariants.{Integer, Char}
 use Rattle.ids_base.specs.declared.shape.Column.{Column}
@@ -114,11 +114,13 @@ abbrev pub statement_items : DataStatement → List Item
 statement_items (CreateTable table shape) = says_word keyword.Create ∷ says_word keyword.Table ∷ says_name table ∷ shape_items shape
 statement_items (Insert table row) = says_word keyword.Insert ∷ says_word keyword.Into ∷ says_name table ∷ says_word keyword.Values ∷ row_items row
 statement_items (Select table condition) = says_word keyword.Select ∷ says_all ∷ says_word keyword.From ∷ says_name table ∷ condition_items condition
+statement_items (Delete table condition) = says_word keyword.Delete ∷ says_word keyword.From ∷ says_name table ∷ condition_items condition
 
 abbrev pub items_of_plan : Plan → List Item
 items_of_plan (Data statement) = statement_items statement
 items_of_plan Begin = says_word keyword.Begin ∷ []
 items_of_plan Commit = says_word keyword.Commit ∷ []
+items_of_plan Rollback = says_word keyword.Rollback ∷ []
 
 -- THE PLAN OF A STATEMENT says what a reading of its text says.
 abbrev pub IsPlanOf : List ℕ → Plan → Type 0

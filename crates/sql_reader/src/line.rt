@@ -144,6 +144,8 @@ mod tests {
             b"INSERT INTO t VALUES ('it''s',\"a'b\",'')".as_slice(),
             b"SELECT*FROM t WHERE k=-7".as_slice(),
             b"SELECT * FROM t WHERE k = 'ab'".as_slice(),
+            b"DELETE FROM t WHERE k='ab';".as_slice(),
+            b"CREATE TABLE delete (rollback INTEGER)".as_slice(),
         ] {
             assert!(rt; judge_line(line) == Verdict::Line);
         }
@@ -173,6 +175,8 @@ mod tests {
                 37,
             ),
             (b"SELECT * FROM t WHERE k = 7 AND c = 1".as_slice(), 28),
+            (b"DELETE * FROM t WHERE k = 7".as_slice(), 7),
+            (b"ROLLBACKWORK".as_slice(), 8),
             (b"BEGIN\nCOMMIT".as_slice(), 5),
         ] {
             assert!(rt; judge_line(line) == Verdict::Bad(longest));

@@ -3,7 +3,7 @@ ghost use Rattle.std.specs.Prelude.{◌≡◌, ◌∷◌, [], cond, length, ◌<
 ghost use Rattle.sql_reader.specs.declared.token.Keyword.TheVariants as keyword;
 ghost use Rattle.sql_reader.specs.declared.place.Place.TheVariants as place;
 ghost use Rattle.sql_reader.specs.Grammar.{IsStatementText};
-ghost use Rattle.sql_reader.specs.Plans.{column_items, shape_items, row_items, items_of_plan, IsPlanOf};
+ghost use Rattle.sql_reader.specs.Plans.{says_word, says_name, column_items, shape_items, row_items, condition_items, items_of_plan, IsPlanOf};
 ghost use Rattle.sql_reader.specs.Reading.{IsOn, IsBehind, IsSilent, Went};
 
 use crate::place::Place;
@@ -12,6 +12,7 @@ use crate::script::CheckedText;
 use crate::token::{Keyword, Kind, Sign};
 use ids_base::list::List;
 use ids_base::memory::Memory;
+use ids_base::name::Name;
 use ids_base::plan::{Comparison, DataStatement, Plan, Term};
 use ids_base::shape::{Column, Shape};
 use ids_base::value::Row;
@@ -126,17 +127,26 @@ fn insert(alloc: Global, reader: &mut Reader) -> Result<DataStatement, Memory>
     Ok(DataStatement::Insert { table, row })
 }
 
-// SELECT, behind its first word.
-fn select(alloc: Global, reader: &mut Reader) -> Result<DataStatement, Memory>
+// FROM and the name of a table.
+fn from_table(reader: &mut Reader) -> Name
     requires on { IsOn reader.old }
-    requires at { reader.old.place ≡ place.Select }
+    requires at { reader.old.place ≡ place.Rows }
+    ensures on { IsOn reader.new }
+    ensures to { reader.new.place ≡ place.RowsTable }
+    ensures went { Went reader.old reader.new (says_word keyword.From ∷ says_name result ∷ []) }
+{
+    reader.only(Kind::Word(Keyword::From), Place::RowsFrom);
+    reader.name(Place::RowsTable)
+}
+
+// WHERE and its one term.
+fn condition(alloc: Global, reader: &mut Reader) -> Result<List<Term>, Memory>
+    requires on { IsOn reader.old }
+    requires at { reader.old.place ≡ place.RowsTable }
     ensures on { IfOk result (λ _. IsOn reader.new) }
     ensures to { IfOk result (λ _. reader.new.place ≡ place.StatementEnd) }
-    ensures says { IfOk result (λ statement. IsBehind keyword.Select reader.old reader.new statement) }
+    ensures went { IfOk result (λ condition. Went reader.old reader.new (condition_items condition)) }
 {
-    reader.only(Kind::Sign(Sign::Star), Place::SelectWhat);
-    reader.only(Kind::Word(Keyword::From), Place::SelectFrom);
-    let table = reader.name(Place::SelectTable);
     reader.only(Kind::Word(Keyword::Where), Place::Where);
     let column = reader.name(Place::TermName);
     reader.only(Kind::Sign(Sign::Equal), Place::TermValue);
@@ -147,7 +157,34 @@ fn select(alloc: Global, reader: &mut Reader) -> Result<DataStatement, Memory>
         comparison: Comparison::Equal,
         value,
     })?;
+    Ok(condition)
+}
+
+// SELECT, behind its first word.
+fn select(alloc: Global, reader: &mut Reader) -> Result<DataStatement, Memory>
+    requires on { IsOn reader.old }
+    requires at { reader.old.place ≡ place.Select }
+    ensures on { IfOk result (λ _. IsOn reader.new) }
+    ensures to { IfOk result (λ _. reader.new.place ≡ place.StatementEnd) }
+    ensures says { IfOk result (λ statement. IsBehind keyword.Select reader.old reader.new statement) }
+{
+    reader.only(Kind::Sign(Sign::Star), Place::Rows);
+    let table = from_table(reader);
+    let condition = condition(alloc, reader)?;
     Ok(DataStatement::Select { table, condition })
+}
+
+// DELETE, behind its first word.
+fn delete(alloc: Global, reader: &mut Reader) -> Result<DataStatement, Memory>
+    requires on { IsOn reader.old }
+    requires at { reader.old.place ≡ place.Rows }
+    ensures on { IfOk result (λ _. IsOn reader.new) }
+    ensures to { IfOk result (λ _. reader.new.place ≡ place.StatementEnd) }
+    ensures says { IfOk result (λ statement. IsBehind keyword.Delete reader.old reader.new statement) }
+{
+    let table = from_table(reader);
+    let condition = condition(alloc, reader)?;
+    Ok(DataStatement::Delete { table, condition })
 }
 
 // A statement up to what says nothing.
@@ -161,8 +198,10 @@ fn statement(alloc: Global, reader: &mut Reader) -> Result<Plan, Memory>
     match reader.word() {
         Keyword::Begin => Ok(Plan::Begin),
         Keyword::Commit => Ok(Plan::Commit),
+        Keyword::Rollback => Ok(Plan::Rollback),
         Keyword::Create => Ok(Plan::Data(create(alloc, reader)?)),
         Keyword::Insert => Ok(Plan::Data(insert(alloc, reader)?)),
+        Keyword::Delete => Ok(Plan::Data(delete(alloc, reader)?)),
         _ => Ok(Plan::Data(select(alloc, reader)?)),
     }
 }
@@ -188,7 +227,8 @@ pub fn plan_of(alloc: Global, statement: &CheckedText) -> Result<Plan, Memory>
 mod tests {
     use super::plan_of;
     use crate::script::check_script;
-    use ids_base::plan::{Comparison, DataStatement, Plan};
+    use ids_base::list::List;
+    use ids_base::plan::{Comparison, DataStatement, Plan, Term};
     use ids_base::shape::Kind;
     use ids_base::value::Value;
     use std::alloc::Global;
@@ -209,6 +249,7 @@ mod tests {
     fn ends(rt: HostRuntime) -> Result<(), Fail> {
         assert!(rt; matches!(plan(rt.alloc(), b"\n Begin work;")?, Plan::Begin));
         assert!(rt; matches!(plan(rt.alloc(), b"COMMIT")?, Plan::Commit));
+        assert!(rt; matches!(plan(rt.alloc(), b"RollBack WORK ;")?, Plan::Rollback));
         Ok(())
     }
 
@@ -269,20 +310,36 @@ mod tests {
         }
     }
 
+    // Whether a condition is that the column is the number.
+    fn is_term(condition: &List<Term>, column: &[u8], number: i32) -> bool {
+        match condition.as_slice() {
+            [term] => {
+                term.column.bytes() == column
+                    && term.comparison == Comparison::Equal
+                    && is_number(&term.value, number)
+            }
+            _ => false,
+        }
+    }
+
     #[test]
     fn select(rt: HostRuntime) -> Result<(), Fail> {
         let plan = plan(rt.alloc(), b"SELECT * FROM t WHERE K = 7")?;
         let Plan::Data(DataStatement::Select { table, condition }) = plan else {
             return Err(Fail::new("no SELECT"));
         };
-        assert!(rt; table.bytes() == b"t".as_slice());
-        match condition.as_slice() {
-            [term] => {
-                assert!(rt; term.column.bytes() == b"k".as_slice());
-                assert!(rt; term.comparison == Comparison::Equal && is_number(&term.value, 7));
-                Ok(())
-            }
-            _ => Err(Fail::new("not one term")),
-        }
+        assert!(rt; table.bytes() == b"t".as_slice() && is_term(&condition, b"k", 7));
+        Ok(())
+    }
+
+    #[test]
+    fn delete(rt: HostRuntime) -> Result<(), Fail> {
+        let plan = plan(rt.alloc(), b"Delete From ROLLBACK Where DELETE = -7;")?;
+        let Plan::Data(DataStatement::Delete { table, condition }) = plan else {
+            return Err(Fail::new("no DELETE"));
+        };
+        assert!(rt; table.bytes() == b"rollback".as_slice());
+        assert!(rt; is_term(&condition, b"delete", -7));
+        Ok(())
     }
 }

@@ -270,6 +270,7 @@ mod tests {
             (b"BEGIN\nCOMMIT".as_slice(), None),
             (b"BEGIN\n;\nCOMMIT\n;".as_slice(), Some(6)),
             (b"BEGIN\nCOMMIT\nPHASE".as_slice(), Some(13)),
+            (b"BEGIN\nROLLBACK WORK\nDELETE t\n;".as_slice(), Some(20)),
             (b"BEGIN\r\nCOMMIT\r\n".as_slice(), None),
             (
                 b"CREATE TABLE t (k INTEGER, c CHAR(4))\nBEGIN WORK\nINSERT INTO t VALUES (7, 'ab')\nSELECT * FROM t WHERE k = 7\nCOMMIT WORK\nUPDATE t SET c = 'x'\n".as_slice(),

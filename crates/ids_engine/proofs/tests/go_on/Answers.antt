@@ -10,4 +10,4 @@ invariant_of-result c =
     kept-same _ _ _ _ _ _ _ _ c.in_ok-note.ensures
     (c.in_ok-apply.ensures.ok ∙ ap (λ (es : List Effect). apply_all c.args.tables es) c.requires.alone)
     c.in_ok-greatest.ensures.numbers c.in_ok-greatest.ensures.greatest
-    (kept_by_records c.args.replay c.args.tables c.args.numbers c.args.greatest 1 c.args.«record».now c.args.effect.now c.requires.kept c.requires.new_row c.requires.makes c.requires.number)
+    (kept_by_records c.args.replay c.args.tables c.args.numbers c.args.greatest 1 c.args.«record».now c.args.effect.now c.requires.kept c.requires.one c.requires.makes c.requires.number)

@@ -1,12 +1,22 @@
-use Rattle.ids_server.proofs.Steps.{Laws, keeps_step}
+use Rattle.ids_server.proofs.Steps.{keeps_step}
 use Rattle.ids_server.proofs.laws.steps_keep_running.Goals as goal
 
 pub returns : goal.returns
-returns c = let laws : Laws = record {
+returns c = λ script found before moment r new plan running le is_next steps. keeps_step (record {
   begins = c.begins_keep_served.ensures;
   second_begins = c.second_begins_keep_served.ensures;
   lone_commits = c.lone_commits_keep_served.ensures;
   statements = c.statements_keep_served.ensures;
+  refusals = c.refusals_keep_served.ensures;
   commits = c.commits_keep_served.ensures;
   singles = c.singles_keep_served.ensures;
-} in λ script moment r plan running is_next. keeps_step laws script moment r running plan is_next
+  single_refusals = c.single_refusals_keep_served.ensures;
+  unanswered_commits = c.unanswered_commits_match.ensures;
+  unanswered_singles = c.unanswered_singles_match.ensures;
+  lone_rollbacks = c.lone_rollbacks_keep_served.ensures;
+  rollbacks = c.rollbacks_keep_served.ensures;
+  undone = c.undone_are_back.ensures;
+  fitting = c.fitting_are_past.ensures;
+  fit = c.effects_fit.ensures;
+  journals = c.journals_go_on.ensures;
+}) script found before moment le r running plan new is_next steps

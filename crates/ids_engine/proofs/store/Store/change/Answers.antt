@@ -1,4 +1,5 @@
-use Rattle.std.proofs.Common.{◌∷◌, [], ◌++◌, ◌∙◌, ap}
+use Rattle.std.proofs.Common.{List, ◌∷◌, [], ◌++◌, ◌∙◌, ap}
+use Rattle.ids_model.specs.declared.effect.Effect.{Effect}
 use Rattle.ids_model.specs.Tables.{Tables, apply}
 use Rattle.ids_engine.specs.declared.store.Store.{Store}
 use Rattle.ids_engine.specs.Stores.{entries_of}
@@ -41,7 +42,7 @@ returns-in_err-take-clause-err g c = on_err_of c.from_residual-in_err-take.resul
     let h = begun.history in
     let kept = placed_keeps d.tells d.size d.now d.image d.can_leave d.left_at since found done effects s c.begin.new.disk begun
     c.args.self.now c.in_ok-placed.placed c.in_ok-tx.tx c.in-Record.record effect c.put.new.self.files c.put.new.self.buffer c.put.new.disk c.kept_by_records.ensures
-    c.in_ok-begin.ensures.same c.in_ok-begin.ensures.current c.in-Record.is c.in_ok-placed.ensures.makes c.in_ok-placed.ensures.number c.requires.new_row c.in_ok-put.ensures.log
+    c.in_ok-begin.ensures.same c.in_ok-begin.ensures.current c.in-Record.is c.in_ok-placed.ensures.makes c.in_ok-placed.ensures.number c.requires.one c.in_ok-put.ensures.log
     (c.in_ok-put.ensures.kept since h.base h.before (entries_of h s.current) h.marks begun.kept) in
     fault_survives d.tells d.size d.now d.image d.can_leave d.left_at since found done (effects ++ effect ∷ []) _ c.put.new.disk kept g.met.D.Disk.left_tells c.put.new.disk kept.kept.outlives)
 
@@ -54,7 +55,7 @@ returns-clause-done g c = λ since found done effects keeps.
     let h = begun.history in
     changed_keeps d.tells d.size d.now d.image d.can_leave d.left_at since found done effects s c.begin.new.disk begun
     c.args.self.now c.in_ok-placed.placed c.in_ok-tx.tx c.in-Record.record c.args.effect.now c.put.new.self c.take.new.self c.put.new.disk c.kept_by_records.ensures
-    c.in_ok-begin.ensures.same c.in_ok-begin.ensures.current c.in-Record.is c.in_ok-placed.ensures.makes c.in_ok-placed.ensures.number c.requires.new_row put.same put.replay
+    c.in_ok-begin.ensures.same c.in_ok-begin.ensures.current c.in-Record.is c.in_ok-placed.ensures.makes c.in_ok-placed.ensures.number c.requires.one put.same put.replay
     c.in_ok-take.ensures.taken put.log (put.kept since h.base h.before (entries_of h s.current) h.marks begun.kept)
 
 pub returns-clause-sound : goal.returns-clause-sound
@@ -71,7 +72,7 @@ returns-clause-sound g c =
       effects = r.effects ++ c.args.effect.now ∷ [];
       keeps = changed_keeps ⊥ d.size d.now d.image d.can_leave d.left_at r.since r.found r.done r.effects s c.begin.new.disk r.keeps
           c.args.self.now c.in_ok-placed.placed c.in_ok-tx.tx c.in-Record.record c.args.effect.now c.put.new.self c.take.new.self c.put.new.disk c.kept_by_records.ensures
-          c.in_ok-begin.ensures.same c.in_ok-begin.ensures.current c.in-Record.is c.in_ok-placed.ensures.makes c.in_ok-placed.ensures.number c.requires.new_row put.same put.replay
+          c.in_ok-begin.ensures.same c.in_ok-begin.ensures.current c.in-Record.is c.in_ok-placed.ensures.makes c.in_ok-placed.ensures.number c.requires.one put.same put.replay
           c.in_ok-take.ensures.taken put.log (put.kept r.since h.base h.before (entries_of h s.current) h.marks r.keeps.kept);
     }
 
@@ -79,3 +80,8 @@ pub returns-clause-tables : goal.returns-clause-tables
 returns-clause-tables g c =
     ap (λ (x : Store). x.tables) c.in_ok-take.ensures.taken
     ∙ ap (λ (T : Tables). apply T c.args.effect.now) (ap (λ (x : Store). x.tables) c.in_ok-put.ensures.same ∙ c.in_ok-begin.ensures.same.tables)
+
+pub returns-clause-noted : goal.returns-clause-noted
+returns-clause-noted g c =
+    ap (λ (x : Store). x.undo) c.in_ok-take.ensures.taken
+    ∙ ap (λ (es : List Effect). es ++ c.args.effect.now ∷ []) (ap (λ (x : Store). x.undo) c.in_ok-put.ensures.same ∙ c.in_ok-begin.ensures.same.undo)

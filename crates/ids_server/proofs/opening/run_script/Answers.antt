@@ -1,0 +1,33 @@
+use Rattle.std.proofs.Common.{◌∙◌, sym, subst}
+use Rattle.std.specs.FinMap as map
+use Rattle.ids_model.specs.Tables.{Tables}
+use Rattle.ids_engine.specs.declared.store.Store.{Store}
+use Rattle.ids_server.specs.Serving.{HasRun}
+use Rattle.ids_server.proofs.Opened.{runs_nothing, runs_shown, keeps_at_start, runs_over}
+use Rattle.ids_server.proofs.opening.run_script.Goals as goal
+
+pub returns-in-Err-clause-ran : goal.returns-in-Err-clause-ran
+returns-in-Err-clause-ran g c = λ bytes is grammar.
+    let none : Tables = map.empty in (
+      none,
+      runs_nothing g.D.Disk.tells g.D.Disk.now g.D.Disk.image g.D.Disk.can_leave g.D.Disk.left_at c.served_at_start.ensures bytes none _ _ _ _ _ c.nothing.ensures.journal c.nothing.ensures.given
+          (λ done. c.status_of.ensures.not_done (sym c.nothing.ensures.status ∙ done)) (λ _. grammar) c.in-Err.ensures.any_moment,
+    )
+
+pub returns-clause-ran : goal.returns-clause-ran
+returns-clause-ran g c = λ bytes is grammar.
+    let runner = c.new-runner.result in
+    let store = c.in-Ok.store in
+    let start = keeps_at_start g.D.Disk.tells g.D.Disk.size g.D.Disk.now g.D.Disk.image g.D.Disk.can_leave g.D.Disk.left_at runner store c.new-runner.ensures.running c.new-runner.ensures.store in (
+      store.tables,
+      runs_shown g.D.Disk.tells g.D.Disk.now g.D.Disk.image g.D.Disk.can_leave g.D.Disk.left_at bytes store.tables c.args.disk.now c.run-status.new.disk c.run-status.result _ _ _ _
+          c.into_parts-journal.ensures.journal c.into_parts-journal.ensures.given
+          (runs_over g.D.Disk.tells g.D.Disk.size g.D.Disk.now g.D.Disk.image g.D.Disk.can_leave g.D.Disk.left_at
+          (record { scripts = c.every_script_has_plans.ensures; covered = c.firsts_are_covered.ensures; leave = c.transactions_leave_tables.ensures }) g.met.D.Disk.left_tells
+          bytes store c.args.disk.now c.from_disk.new.disk c.run-status.new.disk c.run-status.result c.run-status.new.runner.journal.items c.run-status.new.runner.given.items grammar
+          c.in-Ok.ensures.kept
+          (λ script each. subst (λ (s : Store). HasRun script s.tables c.run-status.result c.run-status.new.runner.journal.items c.run-status.new.runner.given.items) c.new-runner.ensures.store
+          (c.run-status.ensures.ran script bytes is each))
+          (λ since found keeps. c.run-status.ensures.survives since found (start since found c.from_disk.new.disk keeps))
+          (λ done since found keeps. c.run-status.ensures.at_end done since found (start since found c.from_disk.new.disk keeps))),
+    )
