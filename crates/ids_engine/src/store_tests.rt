@@ -1,17 +1,14 @@
 //! Worked examples of a store, through the bound that callers have.
-ghost use Rattle.std.specs.Prelude.{◌≡◌, IsTrue, IfOk, OnOk, Some};
-ghost use Rattle.ids_model.specs.Fits.{key_of, FitsOne};
-ghost use Rattle.ids_engine.specs.Placing.{IsOneChange};
+ghost use Rattle.std.specs.Prelude.{IfOk, OnOk};
 ghost use Rattle.ids_engine.specs.Stores.{IsStore};
 
 use crate::tests::{create, empty_disk, insert, is_one_change, name, one_of, plan};
 use crate::{Changed, Store, init_disk};
-use ids_base::plan::DataStatement;
-use ids_base::value::{Row, Value};
-use ids_model::effect::Effect;
+use ids_base::list::List;
+use ids_base::plan::{Comparison, DataStatement, Term};
+use ids_base::value::Value;
 use ids_model::interpret::outcome_of;
 use ids_model::outcome::Outcome;
-use ids_model::rows::is_row_of;
 use ids_model::tables::PlainTables;
 use ids_outside::{Disk, Leave, MemDisk, is_image};
 use std::alloc::Global;
@@ -49,49 +46,22 @@ fn execute<D: Disk>(
     }
 }
 
-fn has_key(row: &Row, key: &Value) -> bool
-    ensures { IsTrue result → key_of row.now ≡ Some key.now }
-{
-    match row.as_slice() {
-        [] => false,
-        [first, ..] => first == key,
-    }
-}
-
-// The effect that takes the row with a key from table t.
-fn row_that_goes(alloc: Global, tables: &PlainTables, key: i32) -> Result<Effect, Fail>
-    ensures fits { IfOk result (FitsOne tables.now) }
-    ensures one { IfOk result IsOneChange }
-{
-    let place = name(b"t")?;
-    let key = Value::Int(key);
-    let Some(table) = tables.table(&place) else {
-        return Err("no table".into());
-    };
-    let Some(row) = table.row(&key) else {
-        return Err("no row".into());
-    };
-    if !is_row_of(table.shape().as_slice(), row.as_slice()) || !has_key(row, &key) {
-        return Err("no row of the table".into());
-    }
-    Ok(Effect::Change {
-        name: place,
-        key,
-        before: Some(row.copy(alloc)?),
-        after: None,
-    })
-}
-
 // Takes the row with a key from table t.
 fn delete<D: Disk>(alloc: Global, store: &mut Store, disk: &mut D, key: i32) -> Result<(), Fail>
     requires { IsStore ⊥ D.size D.now D.image D.can_leave D.left_at store.old disk.old }
     ensures { OnOk result (IsStore ⊥ D.size D.now D.image D.can_leave D.left_at store.new disk.new) }
 {
-    let effect = row_that_goes(alloc, store.tables(), key)?;
-    match store.change(disk, &effect) {
-        Ok(Changed::Done) => Ok(()),
-        _ => Err("no change".into()),
-    }
+    let mut condition = List::with_capacity(alloc, 1)?;
+    condition.push(Term {
+        column: name(b"k")?,
+        comparison: Comparison::Equal,
+        value: Value::Int(key),
+    })?;
+    let statement = DataStatement::Delete {
+        table: name(b"t")?,
+        condition,
+    };
+    execute(alloc, store, disk, &statement)
 }
 
 // Which rows table t has, and whether table u is there.
