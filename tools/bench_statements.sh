@@ -1,13 +1,14 @@
 #!/usr/bin/env bash
-# Statements a second of `ids run` beside the sqlite3 shell over :memory:, on the same statements in one run: INSERTs, then SELECTs by key, in
-# transactions of 100. Needs the built program (rt run in crates/ids makes crates/ids/out/ids); skips sqlite3 where it is not installed.
-# Usage: tools/bench_statements.sh [ROWS]
+# Statements a second of `ids run` over a new disk beside the sqlite3 shell over a new file, on the same statements in one run: INSERTs, then
+# SELECTs by key, in transactions of 100. The log that `ids init` makes holds some 8000 such rows. Needs the built program (rt run in crates/ids
+# makes crates/ids/out/ids); skips sqlite3 where it is not installed.
+# Usage: tools/bench_statements.sh [ROWS [FOLDER]]   (a folder on the file system that is to be used; /tmp by default)
 set -u
 cd "$(dirname "$0")/.." || exit 1
-rows=${1:-200000}
-program=crates/ids/out/ids
-[ -x "$program" ] || { echo "build the program first: cd crates/ids && rt run -- run < stdin"; exit 1; }
-folder=$(mktemp -d)
+rows=${1:-8000}
+program=$PWD/crates/ids/out/ids
+[ -x "$program" ] || { echo "build the program first: cd crates/ids && rt run"; exit 1; }
+folder=$(mktemp -d -p "${2:-/tmp}")
 trap 'rm -rf "$folder"' EXIT
 python3 - "$rows" "$folder" <<'PY'
 import random, sys
@@ -29,18 +30,21 @@ with open(f"{folder}/ids.sql", "w") as f: f.writelines(s + "\n" for s in stateme
 with open(f"{folder}/lite.sql", "w") as f: f.writelines(s + ";\n" for s in statements("BEGIN"))
 PY
 count=$(wc -l < "$folder/ids.sql")
-timed() { # name, command..: the best of three runs
-    local name=$1 best=; shift
+timed() { # name, what makes a new store, command..: the best of three runs, each of which must end with status 0
+    local name=$1 fresh=$2 best=; shift 2
     for _ in 1 2 3; do
         local taken
-        taken=$( { /usr/bin/env time -f '%e %M' "$@" > "$folder/out"; } 2>&1 | tail -n 1)
+        sh -c "$fresh" || exit 1
+        taken=$( { /usr/bin/env time -f '%e %M' "$@" > "$folder/out"; } 2>&1) || { echo "$name: $taken: $(tail -n 1 "$folder/out")"; exit 1; }
+        taken=$(echo "$taken" | tail -n 1)
         if [ -z "$best" ] || python3 -c "import sys; sys.exit(0 if float('${taken% *}') < float('${best% *}') else 1)"; then best=$taken; fi
     done
     python3 -c "t, m = '$best'.split(); print(f'$name: $count statements in {t} s, {$count / max(float(t), 1e-9):.0f} a second, {int(m) // 1024} MiB')"
 }
-timed ids sh -c "$program run < $folder/ids.sql"
+cd "$folder" || exit 1
+timed ids "rm -f *.chk && $program init" sh -c "$program run < ids.sql"
 if command -v sqlite3 > /dev/null; then
-    timed sqlite3 sh -c "sqlite3 :memory: < $folder/lite.sql"
+    timed sqlite3 "rm -f lite.db*" sh -c "sqlite3 lite.db < lite.sql"
 else
     echo "sqlite3 is not installed: skipped"
 fi

@@ -1,12 +1,12 @@
 #!/usr/bin/env bash
-# Lets the first, second, .. allocation of `ids run` fail in turn, on a script, and checks what it ends with: status 0 with the whole text, or
+# Lets the first, second, .. allocation of `ids run` fail in turn, on a script over a new disk, and checks what it ends with: status 0 with the whole text, or
 # status 4 with a front of that text and the line of want of memory. Needs the built program, and a C compiler; skips where there is none.
 # Usage: tools/fail_each_allocation.sh [SCRIPT]
 set -u
 cd "$(dirname "$0")/.." || exit 1
 program=$PWD/crates/ids/out/ids
-script=${1:-crates/ids/stdin}
-[ -x "$program" ] || { echo "build the program first: cd crates/ids && rt run -- run < stdin"; exit 1; }
+script=$(realpath "${1:-examples/first.sql}")
+[ -x "$program" ] || { echo "build the program first: cd crates/ids && rt run"; exit 1; }
 command -v cc > /dev/null || { echo "no C compiler: skipped"; exit 0; }
 folder=$(mktemp -d)
 trap 'rm -rf "$folder"' EXIT
@@ -27,10 +27,13 @@ void *aligned_alloc(size_t a, size_t n) { REAL(aligned_alloc); return fails() ? 
 int posix_memalign(void **p, size_t a, size_t n) { REAL(posix_memalign); return fails() ? ENOMEM : real(p, a, n); }
 C
 cc -O1 -shared -fPIC -o "$folder/fail.so" "$folder/fail.c" -ldl || exit 1
+mkdir "$folder/disk" && cd "$folder/disk" && "$program" init || exit 1
+cp root.chk data1.chk "$folder"
 "$program" run < "$script" > "$folder/whole"
 [ $? = 0 ] || { echo "the script does not end with status 0"; exit 1; }
 same=0 wanting=0 wrong=0
 for n in $(seq 1 100000); do
+    cp "$folder/root.chk" "$folder/data1.chk" .
     FAIL_AT=$n LD_PRELOAD=$folder/fail.so timeout 20 "$program" run < "$script" > "$folder/out" 2> "$folder/err"
     status=$?
     if [ $status = 0 ] && cmp -s "$folder/out" "$folder/whole"; then
