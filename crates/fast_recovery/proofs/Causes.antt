@@ -1,8 +1,7 @@
 -- Why a disk is not opened, by what was read.
-use Rattle.std.proofs.Common.{◌≡◌, inl, ℕ, List, ◌++◌, Option, None, sym, subst}
+use Rattle.std.proofs.Common.{inl, ℕ, List, sym, subst}
 use Rattle.log_records.specs.Entries as says
-use Rattle.log_buffer.specs.Kept.{tail_entries}
-use Rattle.fast_recovery.specs.Order.{open_in}
+use Rattle.ids_base.specs.declared.position.LogPos.{LogPos}
 use Rattle.ids_base.specs.declared.status.Place.TheVariants.{Identity, Checkpoint, Entry, DataPage, Block, Record, Row}
 use Rattle.ids_outside.specs.Images.{Image}
 use Rattle.gate_blocks.specs.declared.region.Region.{Region}
@@ -12,25 +11,26 @@ use Rattle.chunk_map.specs.declared.fault.MapFault.TheVariants as map
 use Rattle.chunk_map.specs.Formatted.{HasLayout, IdentityFault, NewestFault, NamesIdentity}
 use Rattle.fast_recovery.specs.Images.{log_region}
 use Rattle.fast_recovery.specs.Faults.{fault_of}
-use Rattle.fast_recovery.specs.LogRead.{IsDamagedAt, IsLogFull, OpenCause, LogFault, RecordsFault}
+use Rattle.fast_recovery.specs.LogRead.{page_count, IsRefused, IsFirstDamagedRecord, IsDamagedAt, IsLogFull, OpenCause, LogFault, RecordsFault}
+use Rattle.fast_recovery.specs.declared.past.Past.{Past}
 use Rattle.fast_recovery.specs.Opening.{ClosingFault}
 use Rattle.fast_recovery.specs.declared.fault.OpenFault.{OpenFault}
 use Rattle.fast_recovery.specs.declared.fault.OpenFault.TheVariants.{Disk, Memory, NotFormatted, Damaged, LogFull}
 
--- records that are not taken make the log out of order
-pub records-cause : (r : Region) (x : Image) (o : Option ℕ) (es : List says.Entry) (e : OpenFault)
-    → (((rest : List says.Entry) → open_in o (es ++ rest) ≡ None) → open_in None (tail_entries r 1 x) ≡ None) → RecordsFault o es e → LogFault r x e
-records-cause r x o es Disk out h = absurd h
-records-cause r x o es Memory out h = tt
-records-cause r x o es NotFormatted out h = absurd h
-records-cause r x o es (Damaged Identity) out h = absurd h
-records-cause r x o es (Damaged (Checkpoint c)) out h = absurd h
-records-cause r x o es (Damaged (Entry k)) out h = absurd h
-records-cause r x o es (Damaged (DataPage k)) out h = absurd h
-records-cause r x o es (Damaged (Block b)) out h = absurd h
-records-cause r x o es (Damaged (Record pos)) out h = out h
-records-cause r x o es (Damaged (Row n)) out h = absurd h
-records-cause r x o es LogFull out h = absurd h
+-- the first record of a block that is not taken is the first of the log
+pub records-cause : (pages : ℕ) (r : Region) (x : Image) (p : Past) (es : List says.Entry) (e : OpenFault)
+    → ((pos : LogPos) → IsRefused pages p es pos → IsFirstDamagedRecord pages r x pos) → RecordsFault pages p es e → LogFault pages r x e
+records-cause pages r x p es Disk first h = absurd h
+records-cause pages r x p es Memory first h = tt
+records-cause pages r x p es NotFormatted first h = absurd h
+records-cause pages r x p es (Damaged Identity) first h = absurd h
+records-cause pages r x p es (Damaged (Checkpoint c)) first h = absurd h
+records-cause pages r x p es (Damaged (Entry k)) first h = absurd h
+records-cause pages r x p es (Damaged (DataPage k)) first h = absurd h
+records-cause pages r x p es (Damaged (Block b)) first h = absurd h
+records-cause pages r x p es (Damaged (Record pos)) first h = first pos h
+records-cause pages r x p es (Damaged (Row n)) first h = absurd h
+records-cause pages r x p es LogFull first h = absurd h
 
 module _ (x : Image) where
   pub identity-cause : (e : MapFault) → NamesIdentity e → IdentityFault x e → OpenCause x (fault_of e)
@@ -44,7 +44,7 @@ module _ (x : Image) where
   newest-cause map.Disk h = tt
 
   -- the log of the layout that the image has
-  pub log-cause : (l : Layout) (e : OpenFault) → HasLayout l x → LogFault (log_region l) x e → OpenCause x e
+  pub log-cause : (l : Layout) (e : OpenFault) → HasLayout l x → LogFault (page_count l) (log_region l) x e → OpenCause x e
   log-cause l Disk has h = tt
   log-cause l Memory has h = tt
   log-cause l NotFormatted has h = absurd h

@@ -14,6 +14,9 @@ pub mod RowsRefuse
 pub mod RowsStart
 pub mod TablesFound
 pub mod TakingBack
+pub mod Placed
+pub mod PlaceTests
+pub mod Paging
 pub mod Ordered
 pub mod BlocksRead
 pub mod EmptyBase

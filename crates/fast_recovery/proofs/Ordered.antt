@@ -7,8 +7,10 @@ use Rattle.log_records.specs.Spelling.{tx_of}
 use Rattle.ids_model.specs.Recovered.{SlotChange, State, run, AreOf, of_tx, note, noted, others, kept, inserted, deleted, updated}
 use Rattle.ids_model.specs.RecoveryLaws.{RunsJoin}
 use Rattle.fast_recovery.specs.Order.{open_by, open_in}
+use Rattle.fast_recovery.specs.InPlace.{all_in_place}
 use Rattle.fast_recovery.specs.LogRead.{AreUpTo, AreAlone, GoesOn}
 use Rattle.fast_recovery.specs.declared.past.Past.{Past}
+use Rattle.fast_recovery.proofs.Placed.{places-append}
 
 -- records, and others behind them
 pub open_in-append : (o : Option ℕ) (xs ys : List Entry) → open_in o (xs ++ ys) ≡ option_and_then (λ p. open_in p ys) (open_in o xs)
@@ -23,10 +25,6 @@ open_in-append o (e ∷ xs) ys = at (open_by o e) (λ p. open_in-append p xs ys)
 pub open_in-then : (o p : Option ℕ) (xs ys : List Entry) → open_in o xs ≡ Some p → open_in o (xs ++ ys) ≡ open_in p ys
 open_in-then o p xs ys is = open_in-append o xs ys ∙ ap (λ m. option_and_then (λ q. open_in q ys) m) is
 
--- a record out of order, whatever follows
-pub open_in-none : (o p : Option ℕ) (xs : List Entry) (e : Entry) (rest : List Entry) → open_in o xs ≡ Some p → open_by p e ≡ None → open_in o (xs ++ e ∷ rest) ≡ None
-open_in-none o p xs e rest is none = open_in-then o p xs (e ∷ rest) is ∙ ap (λ m. option_and_then (λ q. open_in q rest) m) none
-
 pub up_to-wider : (m n : ℕ) (es : List Entry) → m ≤ n → AreUpTo m es → AreUpTo n es
 up_to-wider m n [] le each = tt
 up_to-wider m n (e ∷ es) le each = (let d : tx_of e ≤ n = omega (arith, le, each.0) in d, up_to-wider m n es le each.1)
@@ -35,18 +33,20 @@ pub up_to-append : (n : ℕ) (xs ys : List Entry) → AreUpTo n xs → AreUpTo n
 up_to-append n [] ys each others = others
 up_to-append n (x ∷ xs) ys each others = (each.0, up_to-append n xs ys each.1 others)
 
--- by no records a past stays
-pub goes-none : (p : Past) → GoesOn p [] p
-goes-none p = record { order = refl; replay = refl; greatest = tt; rises = omega arith }
+module _ (pages : ℕ) where
+  -- by no records a past stays
+  pub goes-none : (p : Past) → GoesOn pages p [] p
+  goes-none p = record { order = refl; places = refl; replay = refl; greatest = tt; rises = omega arith }
 
--- by records and others it goes on as by both
-pub goes-both : RunsJoin → (p q r : Past) (xs ys : List Entry) → GoesOn p xs q → GoesOn q ys r → GoesOn p (xs ++ ys) r
-goes-both join p q r xs ys one two = record {
-  order = open_in-then p.open_tx q.open_tx xs ys one.order ∙ two.order;
-  replay = two.replay ∙ ap (λ (s : State). run s ys) one.replay ∙ sym (join p.replay xs ys);
-  greatest = up_to-append r.last_tx xs ys (up_to-wider q.last_tx r.last_tx xs two.rises one.greatest) two.greatest;
-  rises = omega (arith, one.rises, two.rises);
-}
+  -- by records and others it goes on as by both
+  pub goes-both : RunsJoin → (p q r : Past) (xs ys : List Entry) → GoesOn pages p xs q → GoesOn pages q ys r → GoesOn pages p (xs ++ ys) r
+  goes-both join p q r xs ys one two = record {
+    order = open_in-then p.open_tx q.open_tx xs ys one.order ∙ two.order;
+    places = places-append join pages p.replay.own xs ys one.places (subst (λ (s : State). all_in_place pages s.own ys ≡ true) one.replay two.places);
+    replay = two.replay ∙ ap (λ (s : State). run s ys) one.replay ∙ sym (join p.replay xs ys);
+    greatest = up_to-append r.last_tx xs ys (up_to-wider q.last_tx r.last_tx xs two.rises one.greatest) two.greatest;
+    rises = omega (arith, one.rises, two.rises);
+  }
 
 -- an element of a mapped list stands between the front and the rest
 map-split : {A B : Type 0} (f : A → B) (xs : List A) (i : ℕ) (d : A) → i < length (map f xs) → (rest : List B) × (map f xs ≡ take i (map f xs) ++ f (get_or xs i d) ∷ rest)
@@ -138,6 +138,6 @@ alone-run o p (e ∷ es) cs alone is = at (open_by o e) refl is (λ q step rest.
     at None step h more = cc
     at (Some q) step h more = more q step h
 
-pub alone-goes : (p : Past) (es : List Entry) (q : Past) → AreAlone p.open_tx p.replay.standing → GoesOn p es q → AreAlone q.open_tx q.replay.standing
-alone-goes p es q alone goes =
+pub alone-goes : (pages : ℕ) (p : Past) (es : List Entry) (q : Past) → AreAlone p.open_tx p.replay.standing → GoesOn pages p es q → AreAlone q.open_tx q.replay.standing
+alone-goes pages p es q alone goes =
     subst (λ (s : State). AreAlone q.open_tx s.standing) (sym goes.replay) (alone-run p.open_tx q.open_tx es p.replay.standing alone goes.order)

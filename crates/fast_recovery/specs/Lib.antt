@@ -4,6 +4,9 @@ pub mod Places
 pub mod Keys
 pub mod Images
 pub mod Order
+pub mod InPlace
+pub mod Paged
+pub mod PagedStates
 pub mod Found
 pub mod Reading
 pub mod CatalogueRead

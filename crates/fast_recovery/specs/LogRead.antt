@@ -1,6 +1,8 @@
 -- What is read of an image at opening, and why it is not opened.
-use Rattle.std.specs.Prelude.{◌≡◌, ◌≢◌, ◌<◌, ◌≤◌, ◌⊎◌, ℕ, ◌*◌, List, [], ◌++◌, length, Option, Some, None}
+use Rattle.std.specs.Prelude.{◌≡◌, ◌≢◌, ◌<◌, ◌≤◌, ◌⊎◌, ℕ, ◌*◌, true, false, List, [], ◌∷◌, ◌++◌, length, Option, Some, None}
 use Rattle.std.specs.List.{AllByRecursion}
+use Rattle.std.specs.FinMap.{empty}
+use Rattle.ids_base.specs.declared.position.LogPos.{LogPos}
 use Rattle.ids_base.specs.declared.status.Place.{Place}
 use Rattle.ids_base.specs.declared.status.Place.TheVariants.{Identity, Checkpoint, Entry as EntryAt, DataPage, Block, Record, Row}
 use Rattle.ids_outside.specs.Images.{Image}
@@ -13,10 +15,12 @@ use Rattle.log_records.specs.Entries.{Entry}
 use Rattle.log_records.specs.Spelling.{tx_of}
 use Rattle.log_records.specs.Bodies.{Body}
 use Rattle.log_files.specs.Log.{body_at, tail_from}
-use Rattle.log_buffer.specs.Kept.{tail_entries}
-use Rattle.ids_model.specs.Recovered.{SlotChange, nothing, run, AreOf}
+use Rattle.log_buffer.specs.Kept.{entries_in, tail_entries}
+use Rattle.ids_model.specs.Slots.{own_all}
+use Rattle.ids_model.specs.Recovered.{SlotChange, nothing, run, owns, AreOf}
 use Rattle.fast_recovery.specs.Images.{first_checkpoint, log_region, log_in}
 use Rattle.fast_recovery.specs.Order.{open_in}
+use Rattle.fast_recovery.specs.InPlace.{all_in_place, is_taken}
 use Rattle.fast_recovery.specs.declared.past.Past.{Past}
 use Rattle.fast_recovery.specs.declared.fault.OpenFault.{OpenFault}
 use Rattle.fast_recovery.specs.declared.fault.OpenFault.TheVariants.{Disk, Memory, NotFormatted, Damaged, LogFull}
@@ -25,15 +29,21 @@ use Rattle.fast_recovery.specs.declared.fault.OpenFault.TheVariants.{Disk, Memor
 abbrev pub AreUpTo : ℕ → List Entry → Type 0
 AreUpTo last log = AllByRecursion (λ (e : Entry). tx_of e ≤ last) log
 
--- the records are in order, and make this state
-pub record IsAfter (log : List Entry) (p : Past) : Type 0 where
+-- how many data pages a layout has
+abbrev pub page_count : Layout → ℕ
+page_count l = l.chunks * l.data_pages
+
+-- the records are in order and in their places among so many pages, and make this state
+pub record IsAfter (pages : ℕ) (log : List Entry) (p : Past) : Type 0 where
   pub order : open_in None log ≡ Some p.open_tx
+  pub places : all_in_place pages empty log ≡ true
   pub replay : p.replay ≡ run nothing log
   pub greatest : AreUpTo p.last_tx log
 
--- the first past goes on by these records to the second
-pub record GoesOn (p : Past) (es : List Entry) (q : Past) : Type 0 where
+-- the first past goes on by these records to the second, and each is taken
+pub record GoesOn (pages : ℕ) (p : Past) (es : List Entry) (q : Past) : Type 0 where
   pub order : open_in p.open_tx es ≡ Some q.open_tx
+  pub places : all_in_place pages p.replay.own es ≡ true
   pub replay : q.replay ≡ run p.replay es
   pub greatest : AreUpTo q.last_tx es
   pub rises : p.last_tx ≤ q.last_tx
@@ -44,46 +54,79 @@ AreAlone None cs = cs ≡ []
 AreAlone (Some tx) cs = AreOf tx cs
 
 -- the records are those of the blocks from 1 on to before the next, which does not count
-pub record HasRead (r : Region) (x : Image) (p : Past) : Type 0 where
-  pub after : IsAfter (tail_entries r 1 x) p
+pub record HasRead (pages : ℕ) (r : Region) (x : Image) (p : Past) : Type 0 where
+  pub after : IsAfter pages (tail_entries r 1 x) p
   pub held : (b : ℕ) → 1 ≤ b → b < p.next → (body : Body) × (body_at r b x ≡ Some body)
   pub ends : body_at r p.next x ≡ None
 
--- why records are not taken, where this transaction is open before them: whatever follows, they are out of order
-abbrev pub RecordsFault : Option ℕ → List Entry → OpenFault → Type 0
-RecordsFault before es Disk = ⊥
-RecordsFault before es Memory = Unit {0}
-RecordsFault before es NotFormatted = ⊥
-RecordsFault before es (Damaged Identity) = ⊥
-RecordsFault before es (Damaged (Checkpoint c)) = ⊥
-RecordsFault before es (Damaged (EntryAt k)) = ⊥
-RecordsFault before es (Damaged (DataPage k)) = ⊥
-RecordsFault before es (Damaged (Block b)) = ⊥
-RecordsFault before es (Damaged (Record pos)) = (rest : List Entry) → open_in before (es ++ rest) ≡ None
-RecordsFault before es (Damaged (Row n)) = ⊥
-RecordsFault before es LogFull = ⊥
+-- the record at a place, in the block that comes next after this past, is the first of its records that is not taken
+pub record IsRefused (pages : ℕ) (p : Past) (es : List Entry) (pos : LogPos) : Type 0 where
+  pub block : pos.block ≡ p.next
+  pub front : List Entry
+  pub entry : Entry
+  pub behind : List Entry
+  pub records : es ≡ front ++ entry ∷ behind
+  pub index : length front ≡ pos.index
+  pub last : Past
+  pub goes_on : GoesOn pages p front last
+  pub refused : is_taken pages last.open_tx last.replay.own entry ≡ false
+
+-- why the records of the next block are not taken
+abbrev pub RecordsFault : ℕ → Past → List Entry → OpenFault → Type 0
+RecordsFault pages p es Disk = ⊥
+RecordsFault pages p es Memory = Unit {0}
+RecordsFault pages p es NotFormatted = ⊥
+RecordsFault pages p es (Damaged Identity) = ⊥
+RecordsFault pages p es (Damaged (Checkpoint c)) = ⊥
+RecordsFault pages p es (Damaged (EntryAt k)) = ⊥
+RecordsFault pages p es (Damaged (DataPage k)) = ⊥
+RecordsFault pages p es (Damaged (Block b)) = ⊥
+RecordsFault pages p es (Damaged (Record pos)) = IsRefused pages p es pos
+RecordsFault pages p es (Damaged (Row n)) = ⊥
+RecordsFault pages p es LogFull = ⊥
+
+-- the record at a place of the log is the first that is not taken
+pub record IsFirstDamagedRecord (pages : ℕ) (r : Region) (x : Image) (pos : LogPos) : Type 0 where
+  -- the blocks that count from 1 on: some, one with the number of the place, and others
+  pub before : List Body
+  pub body : Body
+  pub rest : List Body
+  pub blocks : tail_from r 1 x ≡ before ++ body ∷ rest
+  pub number : body.number ≡ pos.block
+  -- in it the record has the index of the place
+  pub front : List Entry
+  pub entry : Entry
+  pub behind : List Entry
+  pub records : body.entries ≡ front ++ entry ∷ behind
+  pub index : length front ≡ pos.index
+  -- all records before it are in order and in their places
+  pub last : Option ℕ
+  pub in_order : open_in None (entries_in before ++ front) ≡ Some last
+  pub in_place : all_in_place pages empty (entries_in before ++ front) ≡ true
+  -- and it is not taken
+  pub refused : is_taken pages last (own_all empty (owns (entries_in before ++ front))) entry ≡ false
 
 -- why the log of a region is not read
-abbrev pub LogFault : Region → Image → OpenFault → Type 0
-LogFault r x Disk = Unit {0}
-LogFault r x Memory = Unit {0}
-LogFault r x NotFormatted = ⊥
-LogFault r x (Damaged Identity) = ⊥
-LogFault r x (Damaged (Checkpoint c)) = ⊥
-LogFault r x (Damaged (EntryAt k)) = ⊥
-LogFault r x (Damaged (DataPage k)) = ⊥
-LogFault r x (Damaged (Block b)) = ⊥
-LogFault r x (Damaged (Record pos)) = open_in None (tail_entries r 1 x) ≡ None
-LogFault r x (Damaged (Row n)) = ⊥
-LogFault r x LogFull = ⊥
+abbrev pub LogFault : ℕ → Region → Image → OpenFault → Type 0
+LogFault pages r x Disk = Unit {0}
+LogFault pages r x Memory = Unit {0}
+LogFault pages r x NotFormatted = ⊥
+LogFault pages r x (Damaged Identity) = ⊥
+LogFault pages r x (Damaged (Checkpoint c)) = ⊥
+LogFault pages r x (Damaged (EntryAt k)) = ⊥
+LogFault pages r x (Damaged (DataPage k)) = ⊥
+LogFault pages r x (Damaged (Block b)) = ⊥
+LogFault pages r x (Damaged (Record pos)) = IsFirstDamagedRecord pages r x pos
+LogFault pages r x (Damaged (Row n)) = ⊥
+LogFault pages r x LogFull = ⊥
 
 -- page c is the first damaged one, or the newest checkpoint stands on it and is not the one that formatting writes
 abbrev pub IsOtherCheckpoint : ℕ → Image → Type 0
 IsOtherCheckpoint c x = IsFirstDamaged c x ⊎ ((p : CheckpointPage) × IsNewest p x × (p ≢ first_checkpoint) × (c ≡ page_of p.number))
 
--- the log has a record out of order
-abbrev pub IsOutOfOrder : Image → Type 0
-IsOutOfOrder x = (l : Layout) × HasLayout l x × (open_in None (log_in l x) ≡ None)
+-- the record at a place is the first of the image's log that is out of order or not in its place
+abbrev pub IsRecordDamaged : LogPos → Image → Type 0
+IsRecordDamaged pos x = (l : Layout) × HasLayout l x × IsFirstDamagedRecord (page_count l) (log_region l) x pos
 
 -- what is damaged at a place
 abbrev pub IsDamagedAt : Image → Place → Type 0
@@ -92,7 +135,7 @@ IsDamagedAt x (Checkpoint c) = IsOtherCheckpoint c x
 IsDamagedAt x (EntryAt k) = ⊥
 IsDamagedAt x (DataPage k) = ⊥
 IsDamagedAt x (Block b) = ⊥
-IsDamagedAt x (Record pos) = IsOutOfOrder x
+IsDamagedAt x (Record pos) = IsRecordDamaged pos x
 IsDamagedAt x (Row n) = ⊥
 
 -- a transaction is open in the log, and each block of its files is taken
@@ -101,6 +144,7 @@ pub record IsLogFull (x : Image) : Type 0 where
   pub has : HasLayout layout x
   pub tx : ℕ
   pub standing : open_in None (log_in layout x) ≡ Some (Some tx)
+  pub in_place : all_in_place (page_count layout) empty (log_in layout x) ≡ true
   pub taken : length (tail_from (log_region layout) 1 x) ≡ layout.logs * layout.log_size
 
 -- why an image is not opened

@@ -1,5 +1,6 @@
 -- What opening finds on a disk, and how the log goes on from there.
-use Rattle.std.specs.Prelude.{◌≡◌, ◌<◌, ◌≤◌, ◌⊎◌, ℕ, ◌+◌, ◌*◌, List, [], ◌++◌, Option, Some, None}
+use Rattle.std.specs.Prelude.{◌≡◌, ◌<◌, ◌≤◌, ◌⊎◌, ℕ, ◌+◌, ◌*◌, true, List, [], ◌++◌, Option, Some, None}
+use Rattle.std.specs.FinMap.{empty}
 use Rattle.ids_outside.specs.Counts.{last_count}
 use Rattle.ids_outside.specs.Images.{Image}
 use Rattle.ids_outside.specs.Stops.{Only}
@@ -14,7 +15,8 @@ use Rattle.ids_model.specs.Tables.{Tables}
 use Rattle.ids_model.specs.Recovered.{nothing, run}
 use Rattle.fast_recovery.specs.Images.{Recovers, first_checkpoint, log_region, log_in}
 use Rattle.fast_recovery.specs.Order.{open_in, closing}
-use Rattle.fast_recovery.specs.LogRead.{AreUpTo, HasRead}
+use Rattle.fast_recovery.specs.InPlace.{all_in_place}
+use Rattle.fast_recovery.specs.LogRead.{AreUpTo, HasRead, page_count}
 use Rattle.fast_recovery.specs.declared.past.Past.{Past}
 use Rattle.fast_recovery.specs.declared.opening.Opened.{Opened}
 use Rattle.fast_recovery.specs.declared.fault.OpenFault.{OpenFault}
@@ -28,7 +30,7 @@ files_from l next = record { region = log_region l; file_blocks = l.log_size; fi
 pub record FoundIn (x : Image) (l : Layout) (p : Past) : Type 0 where
   pub layout : HasLayout l x
   pub newest : IsNewest first_checkpoint x
-  pub read : HasRead (log_region l) x p
+  pub read : HasRead (page_count l) (log_region l) x p
 
 -- the log is as it was, and so is all else
 abbrev pub SameLog : Files → Image → Image → Type 0
@@ -40,6 +42,7 @@ pub record HasOpened (x : Image) (o : Opened) : Type 0 where
   pub newest : IsNewest first_checkpoint x
   pub last : Option ℕ
   pub in_order : open_in None (log_in o.layout x) ≡ Some last
+  pub in_place : all_in_place (page_count o.layout) empty (log_in o.layout x) ≡ true
   pub replay : o.replay ≡ run nothing (log_in o.layout x ++ closing last)
   pub greatest : AreUpTo o.last_tx (log_in o.layout x)
 

@@ -3,11 +3,12 @@
 //! Read in this order: the parts, which are the owners of pages, the rows in slots and the standing changes; the replay of a
 //! log, which has all three; where a new row goes, and where the row with a key stands; the tables that pages and rows stand
 //! for, which are found by the rows of the catalogue first and the other rows after them; and opening, which replays the log
-//! of a disk.
+//! of a disk, where each record is in order and in its place.
 #![tactic(auto)]
 
 mod catalogue;
 mod fault;
+mod in_place;
 pub mod keys;
 mod names;
 mod numbers;

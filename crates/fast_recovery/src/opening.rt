@@ -21,7 +21,9 @@ ghost use Rattle.log_buffer.specs.Kept.{Flushed, KeepsLog, Outlives};
 ghost use Rattle.ids_model.specs.Recovered.{run};
 ghost use Rattle.fast_recovery.specs.Images.{first_checkpoint, log_region};
 ghost use Rattle.fast_recovery.specs.Order.{closing};
-ghost use Rattle.fast_recovery.specs.LogRead.{OpenCause, AreAlone};
+ghost use Rattle.fast_recovery.specs.Paged.{IsPaged};
+ghost use Rattle.fast_recovery.specs.PagedStates.{IsPagedState};
+ghost use Rattle.fast_recovery.specs.LogRead.{OpenCause, AreAlone, page_count};
 ghost use Rattle.fast_recovery.specs.Opening.{files_from, FoundIn, SameLog, HasOpened, IsOpened, KeepsOpened, IsSince, TablesStay, IsWant, ClosingFault, IsRefusal};
 
 use crate::fault::OpenFault;
@@ -61,9 +63,11 @@ pub struct Opened {
 /// Opens a disk, with a ROLLBACK of the transaction that was open at its end.
 ///
 /// Errors, in the order in which they are looked for: `NotFormatted` and `Damaged` as the identity page and the checkpoint pages
-/// say; `Damaged` also where the newest checkpoint is not the one that formatting writes, or a record of the log is out of order;
-/// `LogFull` where a transaction is open and the log has no block left; `Disk` only where a call of the disk failed; `Memory` where
-/// memory was wanting. A stop at any moment leaves the tables as they were.
+/// say; `Damaged` also where the newest checkpoint is not the one that formatting writes, and at the first record of the log that
+/// is out of order or not in its place: a change names a page and a slot that are there, in a page of its table and its row's
+/// length, and an insert may name a page that has no owner yet. `LogFull` where a transaction is open and the log has no block
+/// left; `Disk` only where a call of the disk failed; `Memory` where memory was wanting. A stop at any moment leaves the tables
+/// as they were.
 ///
 /// Reads the identity page once and the checkpoint pages twice, the blocks of the log up to the first that does not count, and
 /// the gate of each other block; a write for each open gate among these, two for the ROLLBACK, and a few syncs. It takes memory
@@ -73,6 +77,7 @@ pub fn open_log<D: Disk>(alloc: Global, disk: &mut D) -> Result<Opened, OpenFaul
     // Also on a disk that does not tell its bytes.
     ensures in_order { IfOk result IsOpened }
     ensures lies { IfOk result (λ o. HasPages (D.size disk.old) o.layout) }
+    ensures paged { IfOk result (λ o. IsPaged (o.layout.chunks * o.layout.data_pages) o.replay.own o.replay.slots) }
     ensures ready { IfOk result (λ o. IsReady D.size D.image D.can_leave o.files disk.new) }
     // Everything that is appended is kept from here on.
     ensures keeps { IfOk result (λ o. D.tells → (since : ℕ) → IsSince D.now D.image D.can_leave disk.old disk.new since
@@ -134,6 +139,7 @@ fn read_disk<D: Disk>(alloc: Global, disk: &mut D) -> Result<(Layout, Past), Ope
     ensures in_range { IfOk result (λ r. IsLayout r.0) }
     ensures lies { IfOk result (λ r. HasPages (D.size disk.old) r.0) }
     ensures alone { IfOk result (λ r. AreAlone r.1.open_tx r.1.replay.standing) }
+    ensures paged { IfOk result (λ r. IsPagedState (page_count r.0) r.1.replay) }
     ensures from { IfOk result (λ r. 1 ≤ r.1.next) }
     ensures to { IfOk result (λ r. r.1.next ≤ 1 + r.0.logs * r.0.log_size) }
     ensures same { D.image disk.new ≡ D.image disk.old }
@@ -149,8 +155,16 @@ fn read_disk<D: Disk>(alloc: Global, disk: &mut D) -> Result<(Layout, Past), Ope
     laws::then::<D, Brand, Brand, Brand>();
     disk.sync()?;
     let layout = read_layout(disk)?;
-    let past = read_log(alloc, disk, &files_of(&layout, 1))?;
+    let past = read_log(alloc, disk, &files_of(&layout, 1), page_count(&layout))?;
     Ok((layout, past))
+}
+
+// How many data pages a layout has.
+fn page_count(layout: &Layout) -> u32
+    requires { IsLayout layout.now }
+    ensures { result ≡ page_count layout.now }
+{
+    layout.chunks * layout.data_pages
 }
 
 // Closes the places behind the log, and begins its buffer.

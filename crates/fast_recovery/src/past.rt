@@ -1,11 +1,16 @@
 //! What the records of a log say.
 ghost use Rattle.std.specs.Prelude.{◌≡◌, ◌<◌, ◌+◌, ◌^◌, [], ◌∷◌, IfOk, IfErr, OnOk, true, false, None};
+ghost use Rattle.std.specs.List.{AllByRecursion};
 ghost use Rattle.log_records.specs.Says.{entry_of};
+ghost use Rattle.log_records.specs.Spelling.{IsEntry};
 ghost use Rattle.ids_model.specs.Recovered.{nothing};
 ghost use Rattle.fast_recovery.specs.Order.{open_by, starts, stays, ends};
+ghost use Rattle.fast_recovery.specs.InPlace.{is_taken};
+ghost use Rattle.fast_recovery.specs.PagedStates.{IsPagedState};
 ghost use Rattle.fast_recovery.specs.LogRead.{GoesOn, RecordsFault};
 
 use crate::fault::OpenFault;
+use crate::in_place::is_in_place;
 use crate::replay::Replay;
 use ids_base::memory::Memory;
 use ids_base::numbers::TxNo;
@@ -44,17 +49,24 @@ impl Past {
         }
     }
 
-    /// Goes on by the records of the next block.
-    pub(crate) fn note_body(&mut self, alloc: Global, body: &BlockBody) -> Result<(), OpenFault>
+    /// Goes on by the records of the next block, among the pages from 1 to this many.
+    pub(crate) fn note_body(
+        &mut self,
+        alloc: Global,
+        body: &BlockBody,
+        pages: u32,
+    ) -> Result<(), OpenFault>
         requires { self.old.next < 2 ^ 63 }
-        ensures goes_on { OnOk result (GoesOn self.old body.now.entries self.new) }
+        ensures goes_on { OnOk result (GoesOn pages self.old body.now.entries self.new) }
         ensures next { OnOk result (self.new.next ≡ self.old.next + 1) }
-        ensures fault { IfErr result (λ e. RecordsFault self.old.open_tx body.now.entries e) }
+        ensures paged { OnOk result (IsPagedState pages self.old.replay → IsPagedState pages self.new.replay) }
+        ensures fault { IfErr result (λ e. RecordsFault pages self.old body.now.entries e) }
     {
         runs_join();
+        are_in_range(body);
         let records = body.records(alloc)?;
         for index in 0..body.count() {
-            if !self.note(&records.as_slice()[index as usize])? {
+            if !self.note(&records.as_slice()[index as usize], pages)? {
                 let block = self.next;
                 return Err(OpenFault::Damaged(Place::Record(LogPos { block, index })));
             }
@@ -63,20 +75,30 @@ impl Past {
         Ok(())
     }
 
-    // Goes on by a record; `false` exactly where it is out of order.
-    fn note(&mut self, entry: &Record) -> Result<bool, Memory>
-        ensures noted { IfOk result (λ is_noted. is_noted ≡ true → GoesOn self.old (entry_of entry.now ∷ []) self.new) }
-        ensures refused { IfOk result (λ is_noted. is_noted ≡ false → open_by self.old.open_tx (entry_of entry.now) ≡ None) }
+    // Goes on by a record; `false` exactly where it is out of order, or not in its place.
+    fn note(&mut self, entry: &Record, pages: u32) -> Result<bool, Memory>
+        ensures noted { IfOk result (λ is_noted. is_noted ≡ true → GoesOn pages self.old (entry_of entry.now ∷ []) self.new) }
+        ensures refused { IfOk result (λ is_noted. is_noted ≡ false → is_taken pages self.old.open_tx self.old.replay.own (entry_of entry.now) ≡ false) }
         ensures next { self.new.next ≡ self.old.next }
     {
         let Some(open_tx) = open_after(self.open_tx, entry) else {
             return Ok(false);
         };
+        if !is_in_place(&self.replay, pages, entry) {
+            return Ok(false);
+        }
         self.replay.note(entry)?;
         self.open_tx = open_tx;
         self.last_tx = self.last_tx.max(entry.tx());
         Ok(true)
     }
+}
+
+// The fields of a body's records are in their ranges.
+fn are_in_range(body: &BlockBody)
+    ensures { AllByRecursion IsEntry body.now.entries }
+{
+    let _used = body.used();
 }
 
 // Which transaction is open after a record, where this one was before; `None` where the record is out of order.

@@ -2,6 +2,7 @@
 ghost use Rattle.std.specs.Prelude.{◌≡◌, ◌≤◌, ◌+◌, ◌<◌, ◌^◌, ℕ, Err, IfOk, IfErr};
 ghost use Rattle.ids_outside.specs.Counts.{Rose};
 ghost use Rattle.ids_outside.specs.Stops.{AreAmong, Leaves};
+ghost use Rattle.fast_recovery.specs.PagedStates.{IsPagedState};
 ghost use Rattle.fast_recovery.specs.LogRead.{HasRead, AreAlone, LogFault};
 
 use crate::fault::OpenFault;
@@ -12,18 +13,21 @@ use log_files::LogFiles;
 use std::alloc::Global;
 use std::marker::Brand;
 
-/// Reads the blocks from number 1 on up to the first that does not count, each once.
+/// Reads the blocks from number 1 on up to the first that does not count, each once; their records are of the pages from 1 to
+/// this many.
 pub(crate) fn read_log<D: Disk>(
     alloc: Global,
     disk: &mut D,
     files: &LogFiles,
+    pages: u32,
 ) -> Result<Past, OpenFault>
     requires lies { files.now.region.first + files.now.region.count ≤ D.size disk.old files.now.region.chunk }
 
-    ensures read { IfOk result (λ p. D.tells → HasRead files.now.region (D.image disk.old) p) }
-    ensures fault { IfErr result (λ e. D.tells → LogFault files.now.region (D.image disk.old) e) }
+    ensures read { IfOk result (λ p. D.tells → HasRead pages files.now.region (D.image disk.old) p) }
+    ensures fault { IfErr result (λ e. D.tells → LogFault pages files.now.region (D.image disk.old) e) }
     // Also on a disk that does not tell its bytes.
     ensures alone { IfOk result (λ p. AreAlone p.open_tx p.replay.standing) }
+    ensures paged { IfOk result (λ p. IsPagedState pages p.replay) }
     ensures from { IfOk result (λ p. 1 ≤ p.next) }
     ensures to { IfOk result (λ p. p.next ≤ 1 + files.now.region.count) }
     ensures same { D.image disk.new ≡ D.image disk.old }
@@ -42,7 +46,7 @@ pub(crate) fn read_log<D: Disk>(
         let Some(body) = files.read_from(disk, past.next)? else {
             return Ok(past);
         };
-        past.note_body(alloc, &body)?;
+        past.note_body(alloc, &body, pages)?;
     }
     Ok(past)
 }

@@ -1,4 +1,5 @@
-use Rattle.std.proofs.Common.{◌≡◌, ◌⊎◌, inl, inr, ◌≤◌, ◌+◌, ◌*◌, ℕ, [], ◌++◌, Option, Some, None, arith, sym, subst, ap, ◌∙◌, refl}
+use Rattle.std.proofs.Common.{◌≡◌, ◌⊎◌, inl, inr, ◌≤◌, ◌+◌, ◌*◌, ℕ, true, [], ◌++◌, Option, Some, None, arith, sym, subst, ap, ◌∙◌, refl}
+use Rattle.std.specs.FinMap.{empty}
 use Rattle.ids_outside.specs.Images.{Image}
 use Rattle.ids_outside.specs.Stops.{Only}
 use Rattle.chunk_map.specs.declared.layout.Layout.{Layout}
@@ -9,10 +10,14 @@ use Rattle.log_buffer.specs.Kept.{KeepsLog}
 use Rattle.ids_model.specs.Recovered.{State, nothing, run}
 use Rattle.fast_recovery.specs.Images.{log_region, log_in}
 use Rattle.fast_recovery.specs.Order.{open_in, closing}
-use Rattle.fast_recovery.specs.LogRead.{AreUpTo, OpenCause}
+use Rattle.fast_recovery.specs.InPlace.{all_in_place}
+use Rattle.fast_recovery.specs.Paged.{IsPaged}
+use Rattle.fast_recovery.specs.PagedStates.{IsPagedState}
+use Rattle.fast_recovery.specs.LogRead.{page_count, AreUpTo, OpenCause}
 use Rattle.fast_recovery.specs.Opening.{files_from}
 use Rattle.fast_recovery.proofs.BlocksRead.{length-held}
 use Rattle.fast_recovery.proofs.Causes.{closing-cause}
+use Rattle.fast_recovery.proofs.Paging.{paged-closing}
 use Rattle.fast_recovery.proofs.Results.{err-goes-up}
 use Rattle.fast_recovery.proofs.Keeping.{same-since, keeps-cleared, keeps-from-now}
 use Rattle.fast_recovery.proofs.EmptyBase.{Laws}
@@ -63,6 +68,7 @@ returns-in_err-close_log-clause-fault g c =
       has = found.layout;
       tx = full.0;
       standing = found.read.after.order ∙ ap (λ (o : Option ℕ). Some o) full.1;
+      in_place = found.read.after.places;
       taken = length-held (log_region l) base 1 (l.logs * l.log_size) (λ q from below. found.read.held q from (omega (arith, below, next)));
     }) c.in_err-close_log.ensures.fault))
 
@@ -75,11 +81,19 @@ returns-clause-opened g c = λ tells.
       newest = found.newest;
       last = p.open_tx;
       in_order = ap (λ (k : Layout). open_in None (log_in k base)) close.layout ∙ after.order;
+      in_place = subst (λ (k : Layout). all_in_place (page_count k) empty (log_in k base) ≡ true) (sym close.layout) after.places;
       replay = close.replay ∙ ap (λ (s : State). run s (closing p.open_tx)) after.replay ∙ sym (c.runs_join.ensures nothing (log_in l base) (closing p.open_tx))
           ∙ ap (λ (k : Layout). run nothing (log_in k base ++ closing p.open_tx)) (sym close.layout);
       greatest = subst (λ (n : ℕ). AreUpTo n (log_in c.close_log.new.opened.layout base)) (sym close.last_tx)
           (subst (λ (k : Layout). AreUpTo p.last_tx (log_in k base)) (sym close.layout) after.greatest);
     }
+
+pub returns-clause-paged : goal.returns-clause-paged
+returns-clause-paged g c =
+    let close = c.in_ok-close_log.ensures in let l = c.in_ok-layout.layout in let p = c.in_ok-layout.past in
+    let paged : IsPagedState (page_count l) c.close_log.new.opened.replay =
+    subst (λ (s : State). IsPagedState (page_count l) s) (sym close.replay) (paged-closing (page_count l) p.replay p.open_tx c.in_ok-layout.ensures.paged) in
+    subst (λ (k : Layout). IsPaged (page_count k) c.close_log.new.opened.replay.own c.close_log.new.opened.replay.slots) (sym close.layout) paged.stands
 
 pub returns-clause-ready : goal.returns-clause-ready
 returns-clause-ready g c =

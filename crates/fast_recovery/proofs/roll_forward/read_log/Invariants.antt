@@ -1,5 +1,6 @@
 use Rattle.std.proofs.Common.{◌≡◌, ◌≤◌, ◌+◌, ◌-◌, ℕ}
 use Rattle.ids_outside.specs.Stops.{AreAmong, Leaves}
+use Rattle.fast_recovery.specs.PagedStates.{IsPagedState}
 use Rattle.fast_recovery.specs.LogRead.{AreAlone}
 use Rattle.fast_recovery.proofs.BlocksRead.{ReadUpTo}
 use Rattle.fast_recovery.proofs.roll_forward.read_log.Given as goal
@@ -21,8 +22,9 @@ abbrev pub invariant-loop-past : goal.invariant-loop-past
 invariant-loop-past g l = record {
   from : 1 ≤ l.past.next;
   to : l.past.next ≤ 1 + l.files.region.count;
-  read : g.D.Disk.tells → ReadUpTo l.files.region (g.D.Disk.image l.fn.disk) l.initial.past l.past;
+  read : g.D.Disk.tells → ReadUpTo l.pages l.files.region (g.D.Disk.image l.fn.disk) l.initial.past l.past;
   alone : AreAlone l.past.open_tx l.past.replay.standing;
+  paged : IsPagedState l.pages l.past.replay;
   same : g.D.Disk.image l.disk ≡ g.D.Disk.image l.fn.disk;
   stop : AreAmong (g.D.Disk.can_leave l.disk) (g.D.Disk.can_leave l.fn.disk);
   run : Leaves g.D.Disk.now g.D.Disk.can_leave g.D.Disk.left_at l.fn.disk l.disk (λ x y. y ≡ x);
