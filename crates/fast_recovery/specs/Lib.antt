@@ -5,6 +5,8 @@ pub mod Keys
 pub mod Images
 pub mod Order
 pub mod Found
+pub mod Pages
+pub mod BrokenRows
 pub mod Reading
 pub mod CatalogueRead
 pub mod RowsRead
