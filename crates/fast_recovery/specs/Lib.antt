@@ -8,6 +8,8 @@ pub mod InPlace
 pub mod Paged
 pub mod PagedStates
 pub mod Found
+pub mod Pages
+pub mod BrokenRows
 pub mod Reading
 pub mod CatalogueRead
 pub mod RowsRead

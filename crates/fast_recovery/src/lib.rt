@@ -10,6 +10,7 @@ mod catalogue;
 mod fault;
 mod in_place;
 pub mod keys;
+pub mod laws;
 mod names;
 mod numbers;
 pub mod opening;
