@@ -8,12 +8,12 @@ use Rattle.gate_blocks.specs.declared.region.Region.{Region}
 use Rattle.chunk_map.specs.declared.layout.Layout.{Layout}
 use Rattle.chunk_map.specs.declared.fault.MapFault.{MapFault}
 use Rattle.chunk_map.specs.declared.fault.MapFault.TheVariants as map
-use Rattle.chunk_map.specs.Formatted.{HasLayout, IdentityFault, NewestFault, NamesIdentity}
+use Rattle.chunk_map.specs.Formatted.{HasLayout, IsFormatted, IdentityFault, NewestFault, NamesIdentity}
 use Rattle.fast_recovery.specs.Images.{log_region}
 use Rattle.fast_recovery.specs.Faults.{fault_of}
 use Rattle.fast_recovery.specs.LogRead.{page_count, IsRefused, IsFirstDamagedRecord, IsDamagedAt, IsLogFull, OpenCause, LogFault, RecordsFault}
 use Rattle.fast_recovery.specs.declared.past.Past.{Past}
-use Rattle.fast_recovery.specs.Opening.{ClosingFault}
+use Rattle.fast_recovery.specs.Opening.{ClosingFault, WasFormatted}
 use Rattle.fast_recovery.specs.declared.fault.OpenFault.{OpenFault}
 use Rattle.fast_recovery.specs.declared.fault.OpenFault.TheVariants.{Disk, Memory, NotFormatted, Damaged, LogFull}
 
@@ -64,3 +64,17 @@ module _ (x : Image) where
   closing-cause full NotFormatted f h = absurd h
   closing-cause full (Damaged place) f h = absurd h
   closing-cause full LogFull f h = f h
+
+  -- where the identity is damaged, the image is formatted
+  pub identity-formatted : (e : MapFault) → IdentityFault x e → WasFormatted x (fault_of e)
+  identity-formatted map.NotFormatted h = tt
+  identity-formatted (map.Damaged place) h = h.0
+  identity-formatted map.Disk h = tt
+
+  -- and so it is at any fault that comes later
+  pub is-formatted : (e : OpenFault) → IsFormatted x → WasFormatted x e
+  is-formatted Disk h = tt
+  is-formatted Memory h = tt
+  is-formatted NotFormatted h = tt
+  is-formatted (Damaged place) h = h
+  is-formatted LogFull h = h

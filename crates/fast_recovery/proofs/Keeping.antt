@@ -4,7 +4,7 @@ use Rattle.std.specs.List.{AllByRecursion}
 use Rattle.std.proofs.lemmas.List.{append-nil}
 use Rattle.ids_outside.specs.Counts.{last_count}
 use Rattle.ids_outside.specs.Images.{Image}
-use Rattle.ids_outside.specs.Stops.{Only, Leaves}
+use Rattle.ids_outside.specs.Stops.{Only, Elapses, Leaves}
 use Rattle.gate_blocks.specs.Gates.{block}
 use Rattle.log_records.specs.Entries.{Entry}
 use Rattle.log_records.specs.Bodies.{Body}
@@ -14,8 +14,8 @@ use Rattle.chunk_map.specs.declared.layout.Layout.{Layout}
 use Rattle.chunk_map.specs.Layouts.{IsLayout, HasPages}
 use Rattle.log_buffer.specs.Buffers.{Buffer, empty_at, waiting}
 use Rattle.log_buffer.specs.Kept.{Flushed, HasLog, HoldsFlushed, KeepsLog, Outlives, tail_entries}
-use Rattle.fast_recovery.specs.Opening.{SameLog, files_from}
-use Rattle.fast_recovery.specs.Images.{log_region, log_in}
+use Rattle.fast_recovery.specs.Opening.{SameLog, IsSince, IsCounted, OnlyBehind, TablesStay, files_from}
+use Rattle.fast_recovery.specs.Images.{Recovers, log_region, log_in}
 
 -- the log was read of an image that alone can be left
 pub is-read : {D : Type 0} (size : D → ℕ → ℕ) (image : D → Image) (can_leave : D → Image → Type 0) (tells : Type 0) (l : Layout) (next : ℕ) (disk : D)
@@ -62,27 +62,65 @@ outlives-more now left_at since base before all marks f disk outlives = λ room 
     nothing-front [] rest parts = refl
     nothing-front (e ∷ front) rest parts = cc
 
+-- a moment that is counted is one since the beginning
+pub is-since : {D : Type 0} (now : D → ℕ) (image : D → Image) (can_leave : D → Image → Type 0) (old : D) (settled : Type 0) (m : ℕ)
+    → IsCounted now image can_leave old settled m → IsSince now image can_leave old m
+is-since now image can_leave old settled m (inl early) = inl early
+is-since now image can_leave old settled m (inr late) = inr late.0
+
 -- the disk's image was read from old to mid, and the places behind its log were closed from mid to new
 module _ {D : Type 0} (size : D → ℕ → ℕ) (now : D → ℕ) (image : D → Image) (can_leave : D → Image → Type 0) (left_at : D → ℕ → Image → Type 0)
     (no_later : (d : D) (m : ℕ) (c : Image) → left_at d m c → m ≤ now d) (only_now : (d : D) (c : Image) → now d < last_count → left_at d (now d) c → can_leave d c) where
-  -- a stop since the beginning left its log
-  pub same-since : (old mid new : D) (base : Image) (f : Files) → Leaves now can_leave left_at old mid (λ x y. y ≡ x) → Only base (can_leave mid) → Leaves now can_leave left_at mid new (SameLog f)
-      → Only base (can_leave old) → now new < last_count → (m : ℕ) (c : Image) → now old ≤ m → left_at new m c → SameLog f base c
-  same-since old mid new base f first settled last only room m c from left = at (order m (now mid))
+  -- behind a sync nothing is left but what it made durable
+  pub behind-sync : (old mid : D) (x : Image) → Elapses (now old) (now mid) (left_at old) (left_at mid) (can_leave mid) → Only x (can_leave mid) → OnlyBehind now left_at x old mid
+  behind-sync old mid x elapses only room m c from left = at (elapses.nothing_else room m c left)
     where
-      at : (now mid ≤ m) ⊎ (m < now mid) → SameLog f base c
-      at (inl late) = let was = last.during room m late c left in subst (λ (x : Image). SameLog f x c) (settled was.0 was.1) was.2
-      at (inr early) =
-          let was = first.during (omega (arith, room, last.later)) m from c (last.before room m early c left) in
-          subst (λ (y : Image). SameLog f base y) (sym (was.2 ∙ only was.0 was.1)) (same-log f base)
+      at : left_at old m c ⊎ ((now old ≤ m) × can_leave mid c) → c ≡ x
+      at (inl past) = absurd (omega (arith, from, no_later old m c past))
+      at (inr here) = only c here.1
 
-  -- so it is kept from its end on, and from the beginning where nothing but the image could be left then
-  pub keeps-cleared : (old mid new : D) (base : Image) (l : Layout) (next : ℕ) (f : Files) (b : Buffer) (since : ℕ)
+  -- nor behind reads
+  pub behind-reads : (old mid new : D) (x : Image) → OnlyBehind now left_at x old mid → Only x (can_leave mid) → Leaves now can_leave left_at mid new (λ y z. z ≡ y) → OnlyBehind now left_at x old new
+  behind-reads old mid new x behind only reads room m c from left = at (order m (now mid))
+    where
+      at : (now mid ≤ m) ⊎ (m < now mid) → c ≡ x
+      at (inl late) = let was = reads.during room m late c left in was.2 ∙ only was.0 was.1
+      at (inr early) = behind (omega (arith, room, reads.later)) m c from (reads.before room m early c left)
+
+  -- so the tables stay over a run of reads
+  pub read-tables : (old new : D) (settled : Type 0) → Leaves now can_leave left_at old new (λ y z. z ≡ y) → (settled → OnlyBehind now left_at (image old) old new)
+      → TablesStay now image can_leave left_at old new settled
+  read-tables old new settled reads behind room m c counted left T recovers = subst (λ (y : Image). Recovers y T) (sym (at counted)) recovers
+    where
+      at : IsCounted now image can_leave old settled m → c ≡ image old
+      at (inl early) = let was = reads.during room m early.0 c left in was.2 ∙ early.1 was.0 was.1
+      at (inr late) = behind late.1 room m c late.0 left
+
+  -- a stop since the beginning left its log
+  pub same-since : (old mid new : D) (f : Files) → Leaves now can_leave left_at old mid (λ x y. y ≡ x) → OnlyBehind now left_at (image old) old mid → Only (image old) (can_leave mid)
+      → Leaves now can_leave left_at mid new (SameLog f) → now new < last_count → (m : ℕ) (c : Image) → IsSince now image can_leave old m → left_at new m c → SameLog f (image old) c
+  same-since old mid new f first behind settled last room m c since left = at (order m (now mid)) since
+    where
+      at : (now mid ≤ m) ⊎ (m < now mid) → IsSince now image can_leave old m → SameLog f (image old) c
+      at (inl late) since = let was = last.during room m late c left in subst (λ (x : Image). SameLog f x c) (settled was.0 was.1) was.2
+      at (inr early) (inl only) =
+          let was = first.during (omega (arith, room, last.later)) m only.0 c (last.before room m early c left) in
+          subst (λ (y : Image). SameLog f (image old) y) (sym (was.2 ∙ only.1 was.0 was.1)) (same-log f (image old))
+      at (inr early) (inr from) =
+          subst (λ (y : Image). SameLog f (image old) y) (sym (behind (omega (arith, room, last.later)) m c from (last.before room m early c left))) (same-log f (image old))
+
+  -- a later moment is one since the beginning too
+  since-later : (old : D) (since m : ℕ) → IsSince now image can_leave old since → since ≤ m → IsSince now image can_leave old m
+  since-later old since m (inl only) le = inl (let from : now old ≤ m = omega (arith, only.0, le) in from, only.1)
+  since-later old since m (inr from) le = inr (omega (arith, from, le))
+
+  -- so it is kept since then
+  pub keeps-cleared : (old mid new : D) (l : Layout) (next : ℕ) (f : Files) (b : Buffer) (since : ℕ)
       → f ≡ all_free (files_from l next) → b ≡ empty_at next → IsReady size image can_leave f new
-      → Leaves now can_leave left_at old mid (λ x y. y ≡ x) → Only base (can_leave mid) → Leaves now can_leave left_at mid new (SameLog (files_from l next))
-      → ((now old ≤ since) × Only base (can_leave old)) ⊎ (now new ≤ since)
-      → KeepsLog size now image can_leave left_at since base (log_in l base) [] [] f b new
-  keeps-cleared old mid new base l next f b since files buffer ready first settled last from_when =
+      → Leaves now can_leave left_at old mid (λ x y. y ≡ x) → OnlyBehind now left_at (image old) old mid → Only (image old) (can_leave mid)
+      → Leaves now can_leave left_at mid new (SameLog (files_from l next)) → IsSince now image can_leave old since
+      → KeepsLog size now image can_leave left_at since (image old) (log_in l (image old)) [] [] f b new
+  keeps-cleared old mid new l next f b since files buffer ready first behind settled last is =
       subst (λ (g : Files). KeepsLog size now image can_leave left_at since base (log_in l base) [] [] g b new) (sym files)
       (subst (λ (a : Buffer). KeepsLog size now image can_leave left_at since base (log_in l base) [] [] free a new) (sym buffer) (record {
         ready = subst (λ (g : Files). IsReady size image can_leave g new) files ready;
@@ -91,9 +129,18 @@ module _ {D : Type 0} (size : D → ℕ → ℕ) (now : D → ℕ) (image : D �
         parts = refl;
         marked = tt;
         held = held;
-        outlives = λ room m c from left. record { front = []; rest = []; parts = refl; log = past from_when room m c from left; flushed = tt };
+        outlives = λ room m c from left. record {
+          front = [];
+          rest = [];
+          parts = refl;
+          log = of_base c (same-since old mid new (files_from l next) first behind settled last room m c (since-later old since m is from) left);
+          flushed = tt;
+        };
       }))
     where
+      base : Image
+      base = image old
+
       free : Files
       free = all_free (files_from l next)
 
@@ -102,31 +149,3 @@ module _ {D : Type 0} (size : D → ℕ → ℕ) (now : D → ℕ) (image : D �
 
       held : (c : Image) → can_leave new c → HasLog free base (log_in l base) [] c
       held c left = let was = last.ends c left in of_base c (subst (λ (x : Image). SameLog (files_from l next) x c) (settled was.0 was.1) was.2)
-
-      past : ((now old ≤ since) × Only base (can_leave old)) ⊎ (now new ≤ since)
-          → now new < last_count → (m : ℕ) (c : Image) → since ≤ m → left_at new m c → HasLog free base (log_in l base) [] c
-      past (inl early) room m c from left = of_base c (same-since old mid new base (files_from l next) first settled last early.1 room m c (omega (arith, from, early.0)) left)
-      past (inr late) room m c from left =
-          let is : m ≡ now new = omega (arith, from, late, no_later new m c left) in held c (only_now new c room (subst (λ n. left_at new n c) is left))
-
-  -- what is kept is kept from the present moment on
-  pub keeps-from-now : (disk : D) (since later : ℕ) (base : Image) (before all : List Entry) (marks : List Flushed) (f : Files) (b : Buffer)
-      → KeepsLog size now image can_leave left_at since base before all marks f b disk → now disk ≤ later
-      → KeepsLog size now image can_leave left_at later base before all marks f b disk
-  keeps-from-now disk since later base before all marks f b keeps le = record {
-    ready = keeps.ready;
-    numbered = keeps.numbered;
-    written = keeps.written;
-    parts = keeps.parts;
-    marked = keeps.marked;
-    held = keeps.held;
-    outlives = λ room m c from left.
-        let is : m ≡ now disk = omega (arith, from, le, no_later disk m c left) in
-        record {
-          front = keeps.written;
-          rest = waiting b;
-          parts = keeps.parts;
-          log = keeps.held c (only_now disk c room (subst (λ n. left_at disk n c) is left));
-          flushed = all-flushed m (length keeps.written) marks keeps.marked;
-        };
-  }

@@ -7,7 +7,7 @@ use Rattle.ids_outside.specs.Stops.{Only}
 use Rattle.chunk_map.specs.declared.layout.Layout.{Layout}
 use Rattle.chunk_map.specs.Layouts.{IsLayout}
 use Rattle.chunk_map.specs.Checkpoints.{IsNewest}
-use Rattle.chunk_map.specs.Formatted.{HasLayout}
+use Rattle.chunk_map.specs.Formatted.{HasLayout, IsFormatted}
 use Rattle.log_files.specs.Files.{Files}
 use Rattle.log_buffer.specs.Buffers.{empty_at}
 use Rattle.log_buffer.specs.Kept.{Flushed, HasLog, KeepsLog, tail_entries}
@@ -64,18 +64,26 @@ pub record KeepsOpened {D : Type 0} (size : D → ℕ → ℕ) (now : D → ℕ)
   pub marks : List Flushed
   pub keeps : KeepsLog size now image can_leave left_at since x (log_in o.layout x) (closing last) marks o.files o.buffer disk
 
--- a moment since the call began, where a stop could then leave nothing but the image that was read; or one since it ended
-abbrev pub IsSince : {D : Type 0} → (D → ℕ) → (D → Image) → (D → Image → Type 0) → D → D → ℕ → Type 0
-IsSince {D} now image can_leave old new since = (now old ≤ since) × (Only (image old) (can_leave old) ⊎ (now new ≤ since))
+-- a moment since the call began; that of its beginning only where a stop could then leave nothing but the image that was read
+abbrev pub IsSince : {D : Type 0} → (D → ℕ) → (D → Image) → (D → Image → Type 0) → D → ℕ → Type 0
+IsSince {D} now image can_leave old since = ((now old ≤ since) × Only (image old) (can_leave old)) ⊎ (now old < since)
+
+-- where moments are counted, a stop at one behind the first leaves this image
+abbrev pub OnlyBehind : {D : Type 0} → (D → ℕ) → (D → ℕ → Image → Type 0) → Image → D → D → Type 0
+OnlyBehind {D} now left_at x old new = now new < last_count → (m : ℕ) (c : Image) → now old < m → left_at new m c → c ≡ x
+
+-- such a moment, and of the later ones only where this holds
+abbrev pub IsCounted : {D : Type 0} → (D → ℕ) → (D → Image) → (D → Image → Type 0) → D → Type 0 → ℕ → Type 0
+IsCounted {D} now image can_leave old settled m = ((now old ≤ m) × Only (image old) (can_leave old)) ⊎ ((now old < m) × settled)
 
 -- whatever tables are recovered from the first image are recovered from the second
 abbrev pub KeepsTables : Image → Image → Type 0
 KeepsTables x y = (T : Tables) → Recovers x T → Recovers y T
 
--- where a stop could leave nothing but the image when the call began, each stop within it leaves the same tables
-abbrev pub TablesStay : {D : Type 0} → (D → ℕ) → (D → Image) → (D → Image → Type 0) → (D → ℕ → Image → Type 0) → D → D → Type 0
-TablesStay {D} now image can_leave left_at old new =
-    Only (image old) (can_leave old) → now new < last_count → (m : ℕ) (c : Image) → now old ≤ m → left_at new m c → KeepsTables (image old) c
+-- each stop at such a moment leaves the same tables
+abbrev pub TablesStay : {D : Type 0} → (D → ℕ) → (D → Image) → (D → Image → Type 0) → (D → ℕ → Image → Type 0) → D → D → Type 0 → Type 0
+TablesStay {D} now image can_leave left_at old new settled =
+    now new < last_count → (m : ℕ) (c : Image) → IsCounted now image can_leave old settled m → left_at new m c → KeepsTables (image old) c
 
 -- the disk failed, or memory was wanting
 abbrev pub IsWant : OpenFault → Type 0
@@ -100,3 +108,11 @@ IsRefusal Memory = ⊥
 IsRefusal NotFormatted = Unit {0}
 IsRefusal (Damaged place) = Unit {0}
 IsRefusal LogFull = ⊥
+
+-- the image is formatted, where it was looked at before this fault came
+abbrev pub WasFormatted : Image → OpenFault → Type 0
+WasFormatted x Disk = Unit {0}
+WasFormatted x Memory = Unit {0}
+WasFormatted x NotFormatted = Unit {0}
+WasFormatted x (Damaged place) = IsFormatted x
+WasFormatted x LogFull = IsFormatted x

@@ -11,7 +11,7 @@ ghost use Rattle.ids_outside.specs.Images.{Image};
 ghost use Rattle.ids_outside.specs.Stops.{AreAmong, Leaves, Only};
 ghost use Rattle.chunk_map.specs.Layouts.{IsLayout, HasPages};
 ghost use Rattle.chunk_map.specs.Checkpoints.{IsNewest, page_of};
-ghost use Rattle.chunk_map.specs.Formatted.{HasLayout};
+ghost use Rattle.chunk_map.specs.Formatted.{HasLayout, IsFormatted};
 ghost use Rattle.log_records.specs.Bodies.{Body};
 ghost use Rattle.log_records.specs.Entries.{Entry};
 ghost use Rattle.log_files.specs.Log.{body_at};
@@ -24,7 +24,7 @@ ghost use Rattle.fast_recovery.specs.Order.{closing};
 ghost use Rattle.fast_recovery.specs.Paged.{IsPaged};
 ghost use Rattle.fast_recovery.specs.PagedStates.{IsPagedState};
 ghost use Rattle.fast_recovery.specs.LogRead.{OpenCause, AreAlone, page_count};
-ghost use Rattle.fast_recovery.specs.Opening.{files_from, FoundIn, SameLog, HasOpened, IsOpened, KeepsOpened, IsSince, TablesStay, IsWant, ClosingFault, IsRefusal};
+ghost use Rattle.fast_recovery.specs.Opening.{files_from, FoundIn, SameLog, HasOpened, IsOpened, KeepsOpened, IsSince, OnlyBehind, TablesStay, IsWant, ClosingFault, IsRefusal, WasFormatted};
 
 use crate::fault::OpenFault;
 use crate::past::Past;
@@ -67,7 +67,7 @@ pub struct Opened {
 /// is out of order or not in its place: a change names a page and a slot that are there, in a page of its table and its row's
 /// length, and an insert may name a page that has no owner yet. `LogFull` where a transaction is open and the log has no block
 /// left; `Disk` only where a call of the disk failed; `Memory` where memory was wanting. A stop at any moment leaves the tables
-/// as they were.
+/// as they were; where something was pending as the call began, at any moment behind that, unless the disk failed.
 ///
 /// Reads the identity page once and the checkpoint pages twice, the blocks of the log up to the first that does not count, and
 /// the gate of each other block; a write for each open gate among these, two for the ROLLBACK, and a few syncs. It takes memory
@@ -80,9 +80,11 @@ pub fn open_log<D: Disk>(alloc: Global, disk: &mut D) -> Result<Opened, OpenFaul
     ensures paged { IfOk result (λ o. IsPaged (o.layout.chunks * o.layout.data_pages) o.replay.own o.replay.slots) }
     ensures ready { IfOk result (λ o. IsReady D.size D.image D.can_leave o.files disk.new) }
     // Everything that is appended is kept from here on.
-    ensures keeps { IfOk result (λ o. D.tells → (since : ℕ) → IsSince D.now D.image D.can_leave disk.old disk.new since
+    ensures keeps { IfOk result (λ o. D.tells → (since : ℕ) → IsSince D.now D.image D.can_leave disk.old since
         → KeepsOpened D.size D.now D.image D.can_leave D.left_at since (D.image disk.old) o disk.new) }
-    ensures any_moment { TablesStay D.now D.image D.can_leave D.left_at disk.old disk.new }
+    ensures any_moment { TablesStay D.now D.image D.can_leave D.left_at disk.old disk.new (¬ (result ≡ Err OpenFault.Disk)) }
+    ensures formatted { OnOk result (D.tells → IsFormatted (D.image disk.old)) }
+    ensures was_formatted { IfErr result (λ e. D.tells → WasFormatted (D.image disk.old) e) }
     ensures fault { IfErr result (λ e. D.tells → OpenCause (D.image disk.old) e) }
     ensures refused { IfErr result (λ e. IsRefusal e → D.image disk.new ≡ D.image disk.old) }
     ensures sizes { (j : ℕ) → D.size disk.new j ≡ D.size disk.old j }
@@ -111,6 +113,8 @@ pub fn open_log<D: Disk>(alloc: Global, disk: &mut D) -> Result<Opened, OpenFaul
 fn read_layout<D: Disk>(disk: &mut D) -> Result<Layout, OpenFault>
     ensures layout { IfOk result (λ l. D.tells → HasLayout l (D.image disk.old)) }
     ensures newest { IfOk result (λ l. D.tells → IsNewest first_checkpoint (D.image disk.old)) }
+    ensures formatted { OnOk result (D.tells → IsFormatted (D.image disk.old)) }
+    ensures was_formatted { IfErr result (λ e. D.tells → WasFormatted (D.image disk.old) e) }
     ensures fault { IfErr result (λ e. D.tells → OpenCause (D.image disk.old) e) }
     // Also on a disk that does not tell its bytes.
     ensures in_range { IfOk result IsLayout }
@@ -134,6 +138,8 @@ fn read_layout<D: Disk>(disk: &mut D) -> Result<Layout, OpenFault>
 // The layout of a disk, and what the records of its log say.
 fn read_disk<D: Disk>(alloc: Global, disk: &mut D) -> Result<(Layout, Past), OpenFault>
     ensures found { IfOk result (λ r. D.tells → FoundIn (D.image disk.old) r.0 r.1) }
+    ensures formatted { OnOk result (D.tells → IsFormatted (D.image disk.old)) }
+    ensures was_formatted { IfErr result (λ e. D.tells → WasFormatted (D.image disk.old) e) }
     ensures fault { IfErr result (λ e. D.tells → OpenCause (D.image disk.old) e) }
     // Also on a disk that does not tell its bytes.
     ensures in_range { IfOk result (λ r. IsLayout r.0) }
@@ -145,6 +151,8 @@ fn read_disk<D: Disk>(alloc: Global, disk: &mut D) -> Result<(Layout, Past), Ope
     ensures same { D.image disk.new ≡ D.image disk.old }
     // A stop leaves what was read.
     ensures settled { IfOk result (λ r. Only (D.image disk.new) (D.can_leave disk.new)) }
+    // Also one behind the moment at which it began, once the sync was done.
+    ensures behind { ¬ (result ≡ Err OpenFault.Disk) → OnlyBehind D.now D.left_at (D.image disk.old) disk.old disk.new }
     ensures any_moment { Leaves D.now D.can_leave D.left_at disk.old disk.new (λ x y. y ≡ x) }
     ensures sizes { (j : ℕ) → D.size disk.new j ≡ D.size disk.old j }
     ensures counted { D.fault_count disk.old ≤ D.fault_count disk.new }

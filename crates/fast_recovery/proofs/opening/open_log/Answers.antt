@@ -14,12 +14,12 @@ use Rattle.fast_recovery.specs.InPlace.{all_in_place}
 use Rattle.fast_recovery.specs.Paged.{IsPaged}
 use Rattle.fast_recovery.specs.PagedStates.{IsPagedState}
 use Rattle.fast_recovery.specs.LogRead.{page_count, AreUpTo, OpenCause}
-use Rattle.fast_recovery.specs.Opening.{files_from}
+use Rattle.fast_recovery.specs.Opening.{files_from, WasFormatted}
 use Rattle.fast_recovery.proofs.BlocksRead.{length-held}
-use Rattle.fast_recovery.proofs.Causes.{closing-cause}
+use Rattle.fast_recovery.proofs.Causes.{closing-cause, is-formatted}
 use Rattle.fast_recovery.proofs.Paging.{paged-closing}
-use Rattle.fast_recovery.proofs.Results.{err-goes-up}
-use Rattle.fast_recovery.proofs.Keeping.{same-since, keeps-cleared, keeps-from-now}
+use Rattle.fast_recovery.proofs.Results.{err-goes-up, no-disk-fault, at-err}
+use Rattle.fast_recovery.proofs.Keeping.{is-since, read-tables, same-since, keeps-cleared}
 use Rattle.fast_recovery.proofs.EmptyBase.{Laws}
 use Rattle.fast_recovery.proofs.SeenTables.{keeps-tables}
 use Rattle.fast_recovery.proofs.opening.open_log.Goals as goal
@@ -29,30 +29,52 @@ start_log-requires-clause-held g c = λ tells b from below.
     let was = (c.in_ok-layout.ensures.found tells).read.held b from below in
     (was.0, ap (λ (y : Image). body_at (log_region c.in_ok-layout.layout) b y) c.read_disk.ensures.same ∙ was.1)
 
+pub returns-in_err-layout-clause-any_moment : goal.returns-in_err-layout-clause-any_moment
+returns-in_err-layout-clause-any_moment g c =
+    let d = g.D.Disk in let old = c.args.disk.now in let mid = c.read_disk.new.disk in
+    read-tables d.size d.now d.image d.can_leave d.left_at g.met.D.Disk.no_later g.met.D.Disk.only_now old mid _ c.read_disk.ensures.any_moment
+    (λ none. c.in_err-layout.ensures.behind (no-disk-fault c.from_residual.result c.in_err-layout.field-0.0 c.from_residual.ensures.1 none))
+
+pub returns-in_err-layout-clause-was_formatted : goal.returns-in_err-layout-clause-was_formatted
+returns-in_err-layout-clause-was_formatted g c =
+    let base = g.D.Disk.image c.args.disk.now in
+    err-goes-up c.from_residual.result _ (λ e. g.D.Disk.tells → WasFormatted base e) c.from_residual.ensures.1 (λ e is tells.
+    let same : e ≡ c.in_err-layout.field-0.0 = is in
+    subst (λ k. WasFormatted base k) (sym same) (c.in_err-layout.ensures.was_formatted tells))
+
 pub returns-in_err-files-clause-any_moment : goal.returns-in_err-files-clause-any_moment
-returns-in_err-files-clause-any_moment g c = λ only room m y from left.
+returns-in_err-files-clause-any_moment g c = λ room m y counted left.
     let d = g.D.Disk in let old = c.args.disk.now in let base = d.image old in let l = c.in_ok-layout.layout in let p = c.in_ok-layout.past in
     let mid = c.read_disk.new.disk in let new = c.start_log.new.disk in let f = files_from l p.next in
     let laws : Laws = record { apart = c.apart.ensures.blocks; pages = c.same_pages.ensures.apart; newest = c.same_pages.ensures.newest } in
     let settled : Only base (d.can_leave mid) = subst (λ (w : Image). Only w (d.can_leave mid)) c.read_disk.ensures.same c.in_ok-layout.ensures.settled in
     let found = c.in_ok-layout.ensures.found (g.met.D.Disk.left_tells new m y left) in
-    let same = same-since d.size d.now d.image d.can_leave d.left_at g.met.D.Disk.no_later g.met.D.Disk.only_now old mid new base f c.read_disk.ensures.any_moment settled c.start_log.ensures.any_moment
-    only room m y from left in
+    let same = same-since d.size d.now d.image d.can_leave d.left_at g.met.D.Disk.no_later g.met.D.Disk.only_now old mid new f c.read_disk.ensures.any_moment (c.in_ok-layout.ensures.behind (λ no. cc)) settled
+    c.start_log.ensures.any_moment room m y (is-since d.now d.image d.can_leave old _ m counted) left in
     keeps-tables c.runs_join.ensures c.rollbacks_are_seen.ensures laws c.one_of_each.ensures.layout l f p.open_tx [] (closing p.open_tx) base y
     refl refl found.layout found.read.after.order refl same
 
 pub returns-in_err-close_log-clause-any_moment : goal.returns-in_err-close_log-clause-any_moment
-returns-in_err-close_log-clause-any_moment g c = λ only room m y from left.
+returns-in_err-close_log-clause-any_moment g c = λ room m y counted left.
     let d = g.D.Disk in let old = c.args.disk.now in let base = d.image old in let l = c.in_ok-layout.layout in let p = c.in_ok-layout.past in
     let mid = c.read_disk.new.disk in let start = c.start_log.new.disk in let new = c.close_log.new.disk in
     let laws : Laws = record { apart = c.apart.ensures.blocks; pages = c.same_pages.ensures.apart; newest = c.same_pages.ensures.newest } in
     let settled : Only base (d.can_leave mid) = subst (λ (w : Image). Only w (d.can_leave mid)) c.read_disk.ensures.same c.in_ok-layout.ensures.settled in
-    let keeps = keeps-cleared d.size d.now d.image d.can_leave d.left_at g.met.D.Disk.no_later g.met.D.Disk.only_now old mid start base l p.next c.in_ok-files.files c.in_ok-files.buffer (d.now old)
-    c.in_ok-files.ensures.files c.in_ok-files.ensures.buffer c.in_ok-files.ensures.ready c.read_disk.ensures.any_moment settled c.start_log.ensures.any_moment (inl (let same : d.now old ≤ d.now old = omega arith in same, only)) in
+    let keeps = keeps-cleared d.size d.now d.image d.can_leave d.left_at g.met.D.Disk.no_later g.met.D.Disk.only_now old mid start l p.next c.in_ok-files.files c.in_ok-files.buffer m
+    c.in_ok-files.ensures.files c.in_ok-files.ensures.buffer c.in_ok-files.ensures.ready c.read_disk.ensures.any_moment (c.in_ok-layout.ensures.behind (λ no. cc)) settled c.start_log.ensures.any_moment
+    (is-since d.now d.image d.can_leave old _ m counted) in
     let found = c.in_ok-layout.ensures.found (g.met.D.Disk.left_tells new m y left) in
-    let was = c.in_err-close_log.ensures.outlives (d.now old) base (log_in l base) keeps room m y from left in
+    let was = c.in_err-close_log.ensures.outlives m base (log_in l base) keeps room m y (let same : m ≤ m = omega arith in same) left in
     keeps-tables c.runs_join.ensures c.rollbacks_are_seen.ensures laws c.one_of_each.ensures.layout l c.in_ok-files.files p.open_tx was.front was.rest base y
     (ap (λ (t : Files). t.region) c.in_ok-files.ensures.files) (ap (λ (t : Files). t.first) c.in_ok-files.ensures.files) found.layout found.read.after.order was.parts was.log
+
+pub returns-in_err-files-clause-was_formatted : goal.returns-in_err-files-clause-was_formatted
+returns-in_err-files-clause-was_formatted g c =
+    at-err c.from_residual-in_err-files.result _ (λ e tells. is-formatted (g.D.Disk.image c.args.disk.now) e (c.in_ok-layout.ensures.formatted tells))
+
+pub returns-in_err-close_log-clause-was_formatted : goal.returns-in_err-close_log-clause-was_formatted
+returns-in_err-close_log-clause-was_formatted g c =
+    at-err c.from_residual-in_err-close_log.result _ (λ e tells. is-formatted (g.D.Disk.image c.args.disk.now) e (c.in_ok-layout.ensures.formatted tells))
 
 pub returns-in_err-close_log-clause-fault : goal.returns-in_err-close_log-clause-fault
 returns-in_err-close_log-clause-fault g c =
@@ -100,9 +122,9 @@ returns-clause-ready g c =
     let d = g.D.Disk in let old = c.args.disk.now in let base = d.image old in let l = c.in_ok-layout.layout in let p = c.in_ok-layout.past in
     let mid = c.read_disk.new.disk in let start = c.start_log.new.disk in
     let settled : Only base (d.can_leave mid) = subst (λ (w : Image). Only w (d.can_leave mid)) c.read_disk.ensures.same c.in_ok-layout.ensures.settled in
-    let keeps = keeps-cleared d.size d.now d.image d.can_leave d.left_at g.met.D.Disk.no_later g.met.D.Disk.only_now old mid start base l p.next c.in_ok-files.files c.in_ok-files.buffer (d.now start)
-    c.in_ok-files.ensures.files c.in_ok-files.ensures.buffer c.in_ok-files.ensures.ready c.read_disk.ensures.any_moment settled c.start_log.ensures.any_moment (inr (let same : d.now start ≤ d.now start = omega arith in same)) in
-    (c.in_ok-close_log.ensures.keeps (d.now start) base (log_in l base) keeps).1.ready
+    let keeps = keeps-cleared d.size d.now d.image d.can_leave d.left_at g.met.D.Disk.no_later g.met.D.Disk.only_now old mid start l p.next c.in_ok-files.files c.in_ok-files.buffer (d.now old + 1)
+    c.in_ok-files.ensures.files c.in_ok-files.ensures.buffer c.in_ok-files.ensures.ready c.read_disk.ensures.any_moment (c.in_ok-layout.ensures.behind (λ no. cc)) settled c.start_log.ensures.any_moment (inr (omega arith)) in
+    (c.in_ok-close_log.ensures.keeps (d.now old + 1) base (log_in l base) keeps).1.ready
 
 pub returns-clause-keeps : goal.returns-clause-keeps
 returns-clause-keeps g c = λ tells since is.
@@ -110,43 +132,29 @@ returns-clause-keeps g c = λ tells since is.
     let mid = c.read_disk.new.disk in let start = c.start_log.new.disk in let new = c.close_log.new.disk in
     let o = c.close_log.new.opened in
     let settled : Only base (d.can_leave mid) = subst (λ (w : Image). Only w (d.can_leave mid)) c.read_disk.ensures.same c.in_ok-layout.ensures.settled in
-    let keeps = λ (n : ℕ) (when : ((d.now old ≤ n) × Only base (d.can_leave old)) ⊎ (d.now start ≤ n)).
-    c.in_ok-close_log.ensures.keeps n base (log_in l base)
-    (keeps-cleared d.size d.now d.image d.can_leave d.left_at g.met.D.Disk.no_later g.met.D.Disk.only_now old mid start base l p.next c.in_ok-files.files c.in_ok-files.buffer n
-    c.in_ok-files.ensures.files c.in_ok-files.ensures.buffer c.in_ok-files.ensures.ready c.read_disk.ensures.any_moment settled c.start_log.ensures.any_moment when) in
+    let kept = c.in_ok-close_log.ensures.keeps since base (log_in l base)
+    (keeps-cleared d.size d.now d.image d.can_leave d.left_at g.met.D.Disk.no_later g.met.D.Disk.only_now old mid start l p.next c.in_ok-files.files c.in_ok-files.buffer since
+    c.in_ok-files.ensures.files c.in_ok-files.ensures.buffer c.in_ok-files.ensures.ready c.read_disk.ensures.any_moment (c.in_ok-layout.ensures.behind (λ no. cc)) settled c.start_log.ensures.any_moment is) in
     let found = c.in_ok-layout.ensures.found tells in let lay = c.in_ok-close_log.ensures.layout in
-    let order = ap (λ (k : Layout). open_in None (log_in k base)) lay ∙ found.read.after.order in
-    elim is.1 [
-      | inl only ↦
-          let kept = keeps since (inl (is.0, only)) in
-          record {
-            last = p.open_tx;
-            in_order = order;
-            marks = kept.0;
-            keeps = subst (λ (k : Layout). KeepsLog d.size d.now d.image d.can_leave d.left_at since base (log_in k base) (closing p.open_tx) kept.0 o.files o.buffer new) (sym lay) kept.1;
-          }
-      | inr late ↦
-          let kept = keeps (d.now start) (inr (let same : d.now start ≤ d.now start = omega arith in same)) in
-          record {
-            last = p.open_tx;
-            in_order = order;
-            marks = kept.0;
-            keeps = subst (λ (k : Layout). KeepsLog d.size d.now d.image d.can_leave d.left_at since base (log_in k base) (closing p.open_tx) kept.0 o.files o.buffer new) (sym lay)
-                (keeps-from-now d.size d.now d.image d.can_leave d.left_at g.met.D.Disk.no_later g.met.D.Disk.only_now new (d.now start) since base (log_in l base) (closing p.open_tx) kept.0 o.files o.buffer kept.1 late);
-          }
-    ]
+    record {
+      last = p.open_tx;
+      in_order = ap (λ (k : Layout). open_in None (log_in k base)) lay ∙ found.read.after.order;
+      marks = kept.0;
+      keeps = subst (λ (k : Layout). KeepsLog d.size d.now d.image d.can_leave d.left_at since base (log_in k base) (closing p.open_tx) kept.0 o.files o.buffer new) (sym lay) kept.1;
+    }
 
 pub returns-clause-any_moment : goal.returns-clause-any_moment
-returns-clause-any_moment g c = λ only room m y from left.
+returns-clause-any_moment g c = λ room m y counted left.
     let d = g.D.Disk in let old = c.args.disk.now in let base = d.image old in let l = c.in_ok-layout.layout in let p = c.in_ok-layout.past in
     let mid = c.read_disk.new.disk in let start = c.start_log.new.disk in let new = c.close_log.new.disk in
     let o = c.close_log.new.opened in
     let laws : Laws = record { apart = c.apart.ensures.blocks; pages = c.same_pages.ensures.apart; newest = c.same_pages.ensures.newest } in
     let settled : Only base (d.can_leave mid) = subst (λ (w : Image). Only w (d.can_leave mid)) c.read_disk.ensures.same c.in_ok-layout.ensures.settled in
-    let keeps = keeps-cleared d.size d.now d.image d.can_leave d.left_at g.met.D.Disk.no_later g.met.D.Disk.only_now old mid start base l p.next c.in_ok-files.files c.in_ok-files.buffer (d.now old)
-    c.in_ok-files.ensures.files c.in_ok-files.ensures.buffer c.in_ok-files.ensures.ready c.read_disk.ensures.any_moment settled c.start_log.ensures.any_moment (inl (let same : d.now old ≤ d.now old = omega arith in same, only)) in
+    let keeps = keeps-cleared d.size d.now d.image d.can_leave d.left_at g.met.D.Disk.no_later g.met.D.Disk.only_now old mid start l p.next c.in_ok-files.files c.in_ok-files.buffer m
+    c.in_ok-files.ensures.files c.in_ok-files.ensures.buffer c.in_ok-files.ensures.ready c.read_disk.ensures.any_moment (c.in_ok-layout.ensures.behind (λ no. cc)) settled c.start_log.ensures.any_moment
+    (is-since d.now d.image d.can_leave old _ m counted) in
     let found = c.in_ok-layout.ensures.found (g.met.D.Disk.left_tells new m y left) in
-    let was = (c.in_ok-close_log.ensures.keeps (d.now old) base (log_in l base) keeps).1.outlives room m y from left in
+    let was = (c.in_ok-close_log.ensures.keeps m base (log_in l base) keeps).1.outlives room m y (let same : m ≤ m = omega arith in same) left in
     let files = c.in_ok-close_log.ensures.files in
     keeps-tables c.runs_join.ensures c.rollbacks_are_seen.ensures laws c.one_of_each.ensures.layout l o.files p.open_tx was.front was.rest base y
     (ap (λ (t : Files). t.region) files ∙ ap (λ (t : Files). t.region) c.in_ok-files.ensures.files)
