@@ -21,3 +21,4 @@ pub mod SeenTables
 pub mod Keeping
 pub mod Causes
 pub mod Results
+pub mod Accepted
