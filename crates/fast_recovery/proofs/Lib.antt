@@ -26,3 +26,4 @@ pub mod Causes
 pub mod Results
 pub mod Broken
 pub mod PagesOwned
+pub mod Accepted

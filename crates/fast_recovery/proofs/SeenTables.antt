@@ -1,5 +1,5 @@
 -- The ROLLBACK of the open transaction leaves the tables that are recovered.
-use Rattle.std.proofs.Common.{◌≡◌, ℕ, List, [], ◌∷◌, ◌++◌, Option, Some, None, refl, sym, ◌∙◌, ap, subst}
+use Rattle.std.proofs.Common.{◌≡◌, ℕ, List, [], ◌∷◌, ◌++◌, Option, Some, None, refl, sym, ◌∙◌, ap, subst, append_assoc}
 use Rattle.std.proofs.lemmas.List.{append-nil}
 use Rattle.ids_outside.specs.Images.{Image, SameBut}
 use Rattle.gate_blocks.specs.Gates.{RegionPlaces}
@@ -10,14 +10,13 @@ use Rattle.log_files.specs.Files.{Files}
 use Rattle.log_buffer.specs.Kept.{HasLog, tail_entries}
 use Rattle.ids_model.specs.Tables.{Tables}
 use Rattle.ids_model.specs.Recovered.{State, nothing, run, seen, AreOf}
-use Rattle.ids_model.specs.Stands.{Stands}
-use Rattle.ids_model.specs.Logged.{IsRecovered}
+use Rattle.ids_model.specs.Logged.{StandsWhole, IsRecovered}
 use Rattle.ids_model.specs.RecoveryLaws.{RunsJoin, RollbacksAreSeen}
 use Rattle.fast_recovery.specs.Images.{HasEmptyBase, log_region, log_in}
 use Rattle.fast_recovery.specs.Order.{open_in, closing}
 use Rattle.fast_recovery.specs.LogRead.{AreAlone}
 use Rattle.fast_recovery.specs.Opening.{KeepsTables}
-use Rattle.fast_recovery.proofs.Ordered.{alone-run}
+use Rattle.fast_recovery.proofs.Ordered.{alone-run, open_in-front, open_in-closed}
 use Rattle.fast_recovery.proofs.EmptyBase.{Laws, same-base}
 
 module _ (join : RunsJoin) (rolls : RollbacksAreSeen) where
@@ -36,7 +35,7 @@ module _ (join : RunsJoin) (rolls : RollbacksAreSeen) where
       let first : Rollback tx ≡ e = cc in
       let now : run nothing (log ++ e ∷ []) ≡ record s { slots = seen s; standing = [] } =
       ap (λ f. run nothing (log ++ f ∷ [])) (sym first) ∙ join nothing log (Rollback tx ∷ []) ∙ rolls s tx alone in
-      subst (λ (t : State). Stands t.own (seen t) T) (sym now) stands
+      subst (λ (t : State). StandsWhole t.own (seen t) T) (sym now) stands
   front-recovers log (e ∷ f ∷ front) rest (Some tx) T order parts stands = cc
 
   -- an image whose log has a front of it behind has the same tables
@@ -48,8 +47,13 @@ module _ (join : RunsJoin) (rolls : RollbacksAreSeen) where
       let base = subst (λ m. HasEmptyBase m x) same was.base in
       let tables : IsRecovered (log_in l x) T = subst (λ m. IsRecovered (log_in m x) T) same was.tables in
       let tail : log_in l y ≡ log_in l x ++ front = (λ i. tail_entries (sym region i) (sym first i) y) ∙ log.tail in
+      let closed : open_in None ((log_in l x ++ front) ++ rest) ≡ Some None =
+      ap (open_in None) (append_assoc (log_in l x) front rest ∙ ap (λ es. log_in l x ++ es) (sym parts)) ∙ open_in-closed o (log_in l x) order in
+      let still = open_in-front None None (log_in l x ++ front) rest closed in
       record {
         layout = l;
         base = same-base laws l x y (subst (λ r. SameBut (RegionPlaces r) x y) region log.elsewhere) base;
+        last = still.0;
+        in_order = ap (open_in None) tail ∙ still.1;
         tables = subst (λ t. IsRecovered t T) (sym tail) (front-recovers (log_in l x) front rest o T order parts tables);
       }

@@ -1,5 +1,5 @@
 -- What an image holds while the tables are kept by the logical log alone: nothing stands on the pages, and the log begins with block 1.
-use Rattle.std.specs.Prelude.{◌≡◌, ◌<◌, ◌≤◌, ℕ, ◌+◌, ◌*◌, true, List, None}
+use Rattle.std.specs.Prelude.{◌≡◌, ◌<◌, ◌≤◌, ℕ, ◌+◌, ◌*◌, true, List, Option, Some, None}
 use Rattle.ids_outside.specs.Images.{Image, byte}
 use Rattle.gate_blocks.specs.Gates.{block}
 use Rattle.gate_blocks.specs.declared.region.Region.{Region}
@@ -11,6 +11,7 @@ use Rattle.log_records.specs.Entries.{Entry}
 use Rattle.log_buffer.specs.Kept.{tail_entries}
 use Rattle.ids_model.specs.Tables.{Tables}
 use Rattle.ids_model.specs.Logged.{IsRecovered}
+use Rattle.fast_recovery.specs.Order.{open_in}
 
 -- the two logs of a layout
 abbrev pub phys_region : Layout → Region
@@ -38,8 +39,10 @@ pub record HasEmptyBase (l : Layout) (x : Image) : Type 0 where
   pub physical : (k : ℕ) → k < l.phys → block (phys_region l) k x ≡ None
   pub unowned : (chunk : ℕ) → 1 ≤ chunk → chunk ≤ l.chunks → IsZero x chunk (2048 * l.data_pages)
 
--- the tables that are recovered from an image are those that its log stands for
+-- the tables that are recovered from an image are those that its log stands for, whose records are in order and whose rows are well formed
 pub record Recovers (x : Image) (T : Tables) : Type 0 where
   pub layout : Layout
   pub base : HasEmptyBase layout x
+  pub last : Option ℕ
+  pub in_order : open_in None (log_in layout x) ≡ Some last
   pub tables : IsRecovered (log_in layout x) T

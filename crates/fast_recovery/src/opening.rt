@@ -18,8 +18,9 @@ ghost use Rattle.log_files.specs.Log.{body_at};
 ghost use Rattle.log_files.specs.Files.{IsReady, all_free, taken};
 ghost use Rattle.log_buffer.specs.Buffers.{empty_at};
 ghost use Rattle.log_buffer.specs.Kept.{Flushed, KeepsLog, Outlives};
+ghost use Rattle.ids_model.specs.Tables.{Tables};
 ghost use Rattle.ids_model.specs.Recovered.{run};
-ghost use Rattle.fast_recovery.specs.Images.{first_checkpoint, log_region};
+ghost use Rattle.fast_recovery.specs.Images.{first_checkpoint, log_region, Recovers};
 ghost use Rattle.fast_recovery.specs.Order.{closing};
 ghost use Rattle.fast_recovery.specs.Paged.{IsPaged};
 ghost use Rattle.fast_recovery.specs.PagedStates.{IsPagedState};
@@ -87,6 +88,8 @@ pub fn open_log<D: Disk>(alloc: Global, disk: &mut D) -> Result<Opened, OpenFaul
     ensures was_formatted { IfErr result (λ e. D.tells → WasFormatted (D.image disk.old) e) }
     ensures fault { IfErr result (λ e. D.tells → OpenCause (D.image disk.old) e) }
     ensures refused { IfErr result (λ e. IsRefusal e → D.image disk.new ≡ D.image disk.old) }
+    // An image from which tables are recovered is not refused.
+    ensures accepts { IfErr result (λ e. D.tells → (T : Tables) → Recovers (D.image disk.old) T → ¬ IsRefusal e) }
     ensures sizes { (j : ℕ) → D.size disk.new j ≡ D.size disk.old j }
     ensures counted { D.fault_count disk.old ≤ D.fault_count disk.new }
     ensures cause { result ≡ Err OpenFault.Disk → Rose (D.fault_count disk.old) (D.fault_count disk.new) }

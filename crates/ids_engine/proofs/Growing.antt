@@ -92,6 +92,7 @@ module _ (tells : Type 0) (l : Layout) (found : Tables) (ds : List Done) (effect
     empty_base = is.empty_base;
     log = is.log;
     closes = is.closes;
+    in_order = is.in_order;
     began = is.began;
     quiet = is.quiet;
     logs = is.logs;
@@ -118,6 +119,7 @@ module _ (tells : Type 0) (l : Layout) (found : Tables) (ds : List Done) (effect
     empty_base = is.empty_base;
     log = is.log;
     closes = is.closes;
+    in_order = is.in_order;
     began = is.began;
     quiet = is.quiet;
     logs = is.logs;
@@ -168,6 +170,7 @@ module _ (tells : Type 0) (l : Layout) (found : Tables) (ds : List Done) (effect
     empty_base = is.empty_base;
     log = is.log;
     closes = is.closes;
+    in_order = is.in_order;
     began = is.began;
     quiet = is.quiet;
     logs = logs_go_on h.start found h.logged (whole committed tx) is.logs is.makes;

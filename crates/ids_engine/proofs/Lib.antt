@@ -15,3 +15,5 @@ pub mod RollingBack
 pub mod Opened
 pub mod FirstsCovered
 pub mod JournalsGrow
+pub mod InOrder
+pub mod Accepted

@@ -11,7 +11,7 @@ use Rattle.ids_model.specs.Tables.{Tables}
 use Rattle.ids_model.specs.Recovered.{State, nothing, run, seen, all_taken_back}
 use Rattle.ids_model.specs.Slots.{Slots, assign}
 use Rattle.ids_model.specs.Stands.{Stands, IsWhole}
-use Rattle.ids_model.specs.Logged.{IsRecovered}
+use Rattle.ids_model.specs.Logged.{StandsWhole, IsRecovered}
 use Rattle.ids_model.specs.RecoveryLaws.{RunsJoin, RollbacksAreSeen, TablesAreOne}
 use Rattle.fast_recovery.specs.Images.{HasEmptyBase, log_in}
 use Rattle.fast_recovery.specs.Order.{open_in, closing}
@@ -20,6 +20,7 @@ use Rattle.fast_recovery.specs.Opening.{HasOpened, IsOpened}
 use Rattle.fast_recovery.specs.declared.opening.Opened.{Opened}
 use Rattle.fast_recovery.specs.declared.fault.OpenFault.{OpenFault}
 use Rattle.fast_recovery.specs.declared.fault.OpenFault.TheVariants.{Disk, Memory, NotFormatted, Damaged, LogFull}
+use Rattle.fast_recovery.proofs.Ordered.{open_in-closed}
 use Rattle.fast_recovery.proofs.SeenTables.{front-recovers}
 use Rattle.ids_engine.specs.Kept.{IsKept}
 use Rattle.ids_engine.specs.Stores.{History, IsHistory, IsLogFor, KeepsStore, IsStore, entries_of, state_of}
@@ -50,22 +51,25 @@ module _ (s : Store) (idle : s.current ≡ None) (none : s.undo ≡ []) (ranges 
       → IsRecovered log T → T ≡ s.tables
   one_found join rolls one log last T order replay recovered =
       let closed : IsRecovered (log ++ closing last) T = front-recovers join rolls log (closing last) [] last T order (sym (append-nil (closing last))) recovered in
-      one s.replay.own s.replay.slots T s.tables (seen_now T (subst (λ (x : State). Stands x.own (seen x) T) (sym replay) closed)) memory.stands.stands
+      let now : StandsWhole s.replay.own (seen s.replay) T = subst (λ (x : State). StandsWhole x.own (seen x) T) (sym replay) closed in
+      one s.replay.own s.replay.slots T s.tables (seen_now T now.stands) memory.stands.stands
 
   module _ {D : Type 0} (size : D → ℕ → ℕ) (now : D → ℕ) (image : D → Image) (can_leave : D → Image → Type 0) (left_at : D → ℕ → Image → Type 0) (disk : D) where
     -- a store that has what was found, and no more
     fresh_keeps : (tells : Type 0) (since : ℕ) (base : Image) (before closes : List Entry) (marks : List Flushed)
         → (tells → HasEmptyBase s.layout base) → (tells → log_in s.layout base ≡ before)
         → (tells → (front rest : List Entry) → closes ≡ front ++ rest → IsRecovered (before ++ front) s.tables)
+        → (tells → open_in None (before ++ closes) ≡ Some None)
         → (tells → s.replay ≡ run nothing (before ++ closes))
         → KeepsLog size now image can_leave left_at since base before closes marks s.files s.buffer disk
         → KeepsStore tells size now image can_leave left_at since s.tables [] [] s disk
-    fresh_keeps tells since base before closes marks empty log_of_base recovers began keeps =
+    fresh_keeps tells since base before closes marks empty log_of_base recovers order began keeps =
         let h : History = record { base = base; before = before; closing = closes; start = s.replay; logged = []; changes = []; marks = marks } in
         let holds : IsHistory tells s.layout s.tables [] [] None h = record {
           empty_base = empty;
           log = log_of_base;
           closes = recovers;
+          in_order = order;
           began = began;
           quiet = record { none = quiet; stands = memory.stands };
           logs = tt;
@@ -93,7 +97,8 @@ module _ (s : Store) (idle : s.current ≡ None) (none : s.undo ≡ []) (ranges 
         → KeepsStore tells size now image can_leave left_at since s.tables [] [] s disk
     found_keeps tells join rolls since x last marks base recovered order replay keeps =
         fresh_keeps tells since x (log_in s.layout x) (closing last) marks (λ told. base) (λ told. refl)
-        (λ told front rest parts. front-recovers join rolls (log_in s.layout x) front rest last s.tables order parts recovered) (λ told. replay) keeps
+        (λ told front rest parts. front-recovers join rolls (log_in s.layout x) front rest last s.tables order parts recovered)
+        (λ told. open_in-closed last (log_in s.layout x) order) (λ told. replay) keeps
 
     -- on any disk
     pub sound_opening : (tells : Type 0) (x : Image) → s.buffer ≡ empty_at s.files.next → ((c : Image) → can_leave disk c → tells) → (tells → can_leave disk (image disk))
@@ -113,7 +118,7 @@ module _ (s : Store) (idle : s.current ≡ None) (none : s.undo ≡ []) (ranges 
           found = s.tables;
           done = [];
           effects = [];
-          keeps = fresh_keeps ⊥ (now disk) x before [] [] (λ no. absurd no) (λ no. absurd no) (λ no. absurd no) (λ no. absurd no)
+          keeps = fresh_keeps ⊥ (now disk) x before [] [] (λ no. absurd no) (λ no. absurd no) (λ no. absurd no) (λ no. absurd no) (λ no. absurd no)
               (subst (λ (b : Buffer). KeepsLog size now image can_leave left_at (now disk) x before [] [] s.files b disk) (sym buffer) keeps);
         }
 

@@ -64,6 +64,7 @@ on_any_disk tells l found ds effects current h is = record {
   empty_base = λ no. absurd no;
   log = λ no. absurd no;
   closes = λ no. absurd no;
+  in_order = λ no. absurd no;
   began = λ no. absurd no;
   quiet = is.quiet;
   logs = is.logs;

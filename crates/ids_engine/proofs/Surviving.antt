@@ -13,22 +13,29 @@ use Rattle.ids_model.specs.declared.effect.Effect.{Effect}
 use Rattle.ids_model.specs.Tables.{Tables}
 use Rattle.ids_model.specs.Logged.{IsRecovered}
 use Rattle.fast_recovery.specs.Images.{log_region, log_in, Recovers}
+use Rattle.fast_recovery.specs.Order.{open_in}
 use Rattle.ids_model.specs.Covered.{IsBy}
 use Rattle.ids_engine.specs.Survival.{Done, tables_from, AreFirst, IsLeft, Survives}
 use Rattle.ids_engine.specs.Stores.{History, entries_of, IsHistory}
 use Rattle.ids_engine.proofs.Bases.{base_kept}
 use Rattle.ids_engine.proofs.Fronts.{front_recovers}
+use Rattle.ids_engine.proofs.InOrder.{front_in_order}
 
 -- an image with a front of the records, and nothing else changed
-has_front : (tells : Type 0) (l : Layout) (found : Tables) (ds : List Done) (effects : List Effect) (current : Option ℕ) (h : History) (files : Files) (front : List Entry) (T : Tables) (c : Image)
-    → IsHistory tells l found ds effects current h → tells → files.region ≡ log_region l → files.first ≡ 1 → HasLog files h.base h.before front c → IsRecovered (h.before ++ front) T
+has_front : (tells : Type 0) (l : Layout) (found : Tables) (ds : List Done) (effects : List Effect) (current : Option ℕ) (h : History) (files : Files) (front rest : List Entry) (T : Tables) (c : Image)
+    → IsHistory tells l found ds effects current h → tells → files.region ≡ log_region l → files.first ≡ 1 → entries_of h current ≡ front ++ rest → HasLog files h.base h.before front c → IsRecovered (h.before ++ front) T
     → Recovers c T
-has_front tells l found ds effects current h files front T c is told region first log recovered = record {
+has_front tells l found ds effects current h files front rest T c is told region first parts log recovered = record {
   layout = l;
   base = base_kept l h.base c (subst (λ (r : Region). SameBut (RegionPlaces r) h.base c) region log.elsewhere) (is.empty_base told);
+  last = order.0;
+  in_order = ap (open_in None) (sym same ∙ log.tail) ∙ order.1;
   tables = subst (λ (es : List Entry). IsRecovered es T) (sym (sym same ∙ log.tail)) recovered;
 }
   where
+    order : (last : Option ℕ) × (open_in None (h.before ++ front) ≡ Some last)
+    order = front_in_order tells l found ds effects current h front rest is told parts
+
     same : tail_entries files.region files.first c ≡ log_in l c
     same = λ i. tail_entries (region i) (first i) c
 
@@ -40,7 +47,7 @@ outlived_is_left tells l found ds effects current h files m c is told region fir
     record {
       count = r.count;
       within = r.within;
-      recovers = has_front tells l found ds effects current h files o.front (tables_from found (take r.count ds)) c is told region first o.log r.recovered;
+      recovers = has_front tells l found ds effects current h files o.front o.rest (tables_from found (take r.count ds)) c is told region first o.parts o.log r.recovered;
       flushed = r.flushed;
     }
 
@@ -85,4 +92,4 @@ left_now tells l found ds effects current h files written waits c is flushed tol
     let r = front_recovers tells l found ds effects current h m written waits is told parts (always_holds m (length written) h.marks marked) in
     let all : take r.count ds ≡ ds = all_first m r.count ds flushed (omega arith) r.flushed in
     subst (λ (d : List Done). Recovers c (tables_from found d)) all
-    (has_front tells l found ds effects current h files written (tables_from found (take r.count ds)) c is told region first log r.recovered)
+    (has_front tells l found ds effects current h files written waits (tables_from found (take r.count ds)) c is told region first parts log r.recovered)

@@ -9,9 +9,10 @@ use Rattle.chunk_map.specs.Formatted.{HasLayout}
 use Rattle.ids_model.specs.Tables.{Tables}
 use Rattle.ids_model.specs.Recovered.{State, nothing, run}
 use Rattle.ids_model.specs.Stands.{IsWhole}
-use Rattle.fast_recovery.specs.Images.{log_in}
+use Rattle.fast_recovery.specs.Images.{log_in, Recovers}
 use Rattle.fast_recovery.specs.Order.{open_in, closing}
 use Rattle.fast_recovery.specs.LogRead.{OpenCause, IsDamagedAt}
+use Rattle.fast_recovery.specs.Opening.{IsRefusal}
 use Rattle.fast_recovery.specs.declared.fault.OpenFault.{OpenFault}
 use Rattle.fast_recovery.specs.declared.fault.OpenFault.TheVariants.{Disk, Memory, NotFormatted, Damaged, LogFull}
 use Rattle.ids_engine.specs.Stores.{KeepsStore}
@@ -50,6 +51,10 @@ Refuses x Memory = OpenCause x Memory
 Refuses x NotFormatted = OpenCause x NotFormatted
 Refuses x (Damaged place) = IsRefusedAt x place
 Refuses x LogFull = OpenCause x LogFull
+
+-- an image from which tables are recovered is refused neither as not formatted nor as damaged
+abbrev pub RecoveredIsAccepted : Type 0
+RecoveredIsAccepted = (x : Image) (T : Tables) (e : OpenFault) → Recovers x T → Refuses x e → ¬ IsRefusal e
 
 -- why pages and rows stand for no tables: memory was wanting, or they are no well formed ones
 abbrev pub RowsFault : State → OpenFault → Type 0

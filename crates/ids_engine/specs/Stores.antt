@@ -13,6 +13,7 @@ use Rattle.ids_model.specs.Tables.{Tables, apply_all}
 use Rattle.ids_model.specs.Recovered.{State, nothing, run}
 use Rattle.ids_model.specs.Logged.{Logged, records_of, log_of, tables_after, MakesAll, IsLogOf, IsQuiet, IsRecovered}
 use Rattle.fast_recovery.specs.Images.{HasEmptyBase, log_in, log_region}
+use Rattle.fast_recovery.specs.Order.{open_in}
 use Rattle.ids_engine.specs.Kept.{IsKept}
 use Rattle.ids_engine.specs.Survival.{Done, tables_from}
 use Rattle.ids_engine.specs.declared.store.Store.{Store}
@@ -79,6 +80,8 @@ pub record IsHistory (tells : Type 0) (l : Layout) (found : Tables) (done : List
   pub log : tells → log_in l h.base ≡ h.before
   -- the tables that were found are recovered from the old records, with a front of what closed them or all of it
   pub closes : tells → (front rest : List Entry) → h.closing ≡ front ++ rest → IsRecovered (h.before ++ front) found
+  -- the old records are in order, and with what closed them leave no transaction open
+  pub in_order : tells → open_in None (h.before ++ h.closing) ≡ Some None
   pub began : tells → h.start ≡ run nothing (h.before ++ h.closing)
   pub quiet : IsQuiet h.start found
   pub logs : IsLogOf h.start found h.logged

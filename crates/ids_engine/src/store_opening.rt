@@ -2,7 +2,7 @@
 ghost use Rattle.std.specs.Prelude.{◌≡◌, ◌≤◌, ℕ, [], Err, IfOk, IfErr};
 ghost use Rattle.ids_outside.specs.Counts.{Rose};
 ghost use Rattle.fast_recovery.specs.Images.{Recovers};
-ghost use Rattle.fast_recovery.specs.Opening.{TablesStay};
+ghost use Rattle.fast_recovery.specs.Opening.{TablesStay, IsRefusal};
 ghost use Rattle.ids_model.specs.Tables.{Tables};
 ghost use Rattle.ids_engine.specs.Kept.{IsKept};
 ghost use Rattle.ids_engine.specs.Stores.{IsStore};
@@ -42,6 +42,8 @@ impl Store {
             → HasFound D.tells D.size D.now D.image D.can_leave D.left_at s disk.old disk.new T) }
         ensures any_moment { TablesStay D.now D.image D.can_leave D.left_at disk.old disk.new }
         ensures refused { IfErr result (λ e. D.tells → Refuses (D.image disk.old) e) }
+        // An image from which tables are recovered is not refused.
+        ensures accepts { IfErr result (λ e. D.tells → (T : Tables) → Recovers (D.image disk.old) T → ¬ IsRefusal e) }
         ensures counted { D.fault_count disk.old ≤ D.fault_count disk.new }
         ensures disk_fault { result ≡ Err OpenFault.Disk → Rose (D.fault_count disk.old) (D.fault_count disk.new) }
         ensures sizes { (j : ℕ) → D.size disk.new j ≡ D.size disk.old j }

@@ -8,14 +8,16 @@ use Rattle.log_files.specs.Log.{body_at}
 use Rattle.log_files.specs.Files.{Files}
 use Rattle.log_buffer.specs.Kept.{KeepsLog}
 use Rattle.ids_model.specs.Recovered.{State, nothing, run}
-use Rattle.fast_recovery.specs.Images.{log_region, log_in}
+use Rattle.ids_model.specs.Tables.{Tables}
+use Rattle.fast_recovery.specs.Images.{log_region, log_in, Recovers}
 use Rattle.fast_recovery.specs.Order.{open_in, closing}
 use Rattle.fast_recovery.specs.InPlace.{all_in_place}
 use Rattle.fast_recovery.specs.Paged.{IsPaged}
 use Rattle.fast_recovery.specs.PagedStates.{IsPagedState}
 use Rattle.fast_recovery.specs.LogRead.{page_count, AreUpTo, OpenCause}
-use Rattle.fast_recovery.specs.Opening.{files_from, WasFormatted}
+use Rattle.fast_recovery.specs.Opening.{files_from, WasFormatted, IsWant, ClosingFault, IsRefusal}
 use Rattle.fast_recovery.proofs.BlocksRead.{length-held}
+use Rattle.fast_recovery.proofs.Accepted.{accepted, want-accepted, closing-accepted}
 use Rattle.fast_recovery.proofs.Causes.{closing-cause, is-formatted}
 use Rattle.fast_recovery.proofs.Paging.{paged-closing}
 use Rattle.fast_recovery.proofs.Results.{err-goes-up, no-disk-fault, at-err}
@@ -159,3 +161,24 @@ returns-clause-any_moment g c = λ room m y counted left.
     keeps-tables c.runs_join.ensures c.rollbacks_are_seen.ensures laws c.one_of_each.ensures.layout l o.files p.open_tx was.front was.rest base y
     (ap (λ (t : Files). t.region) files ∙ ap (λ (t : Files). t.region) c.in_ok-files.ensures.files)
     (ap (λ (t : Files). t.first) files ∙ ap (λ (t : Files). t.first) c.in_ok-files.ensures.files) found.layout found.read.after.order was.parts was.log
+
+pub returns-in_err-layout-clause-accepts : goal.returns-in_err-layout-clause-accepts
+returns-in_err-layout-clause-accepts g c =
+    let base = g.D.Disk.image c.args.disk.now in let fault = c.in_err-layout.field-0.0 in
+    err-goes-up c.from_residual.result _ (λ e. g.D.Disk.tells → (T : Tables) → Recovers base T → ¬ IsRefusal e) c.from_residual.ensures.1 (λ e is tells T recovers.
+    let same : e ≡ fault = is in
+    accepted base T e recovers (subst (OpenCause base) (sym same) (c.in_err-layout.ensures.fault tells)))
+
+pub returns-in_err-files-clause-accepts : goal.returns-in_err-files-clause-accepts
+returns-in_err-files-clause-accepts g c =
+    let base = g.D.Disk.image c.args.disk.now in let fault = c.in_err-files.field-0.0 in
+    err-goes-up c.from_residual-in_err-files.result _ (λ e. g.D.Disk.tells → (T : Tables) → Recovers base T → ¬ IsRefusal e) c.from_residual-in_err-files.ensures.1 (λ e is tells T recovers.
+    let same : e ≡ fault = is in
+    want-accepted e (subst IsWant (sym same) c.in_err-files.ensures.fault))
+
+pub returns-in_err-close_log-clause-accepts : goal.returns-in_err-close_log-clause-accepts
+returns-in_err-close_log-clause-accepts g c =
+    let base = g.D.Disk.image c.args.disk.now in let fault = c.in_err-close_log.field-0.0 in
+    err-goes-up c.from_residual-in_err-close_log.result _ (λ e. g.D.Disk.tells → (T : Tables) → Recovers base T → ¬ IsRefusal e) c.from_residual-in_err-close_log.ensures.1 (λ e is tells T recovers.
+    let same : e ≡ fault = is in
+    closing-accepted _ e (subst (ClosingFault _) (sym same) c.in_err-close_log.ensures.fault))

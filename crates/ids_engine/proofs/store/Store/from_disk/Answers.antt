@@ -1,13 +1,16 @@
-use Rattle.std.proofs.Common.{◌≡◌, ◌+◌, ℕ, ◌++◌, Option, None, refl, ◌∙◌, ap, subst, inr, arith}
+use Rattle.std.proofs.Common.{◌≡◌, ◌+◌, ℕ, ◌++◌, Option, None, refl, ◌∙◌, ap, sym, subst, inr, arith}
 use Rattle.ids_outside.specs.Images.{Image}
 use Rattle.chunk_map.specs.declared.layout.Layout.{Layout}
 use Rattle.ids_model.specs.Tables.{Tables}
 use Rattle.ids_model.specs.Recovered.{nothing, run}
 use Rattle.ids_model.specs.Logged.{IsRecovered}
-use Rattle.fast_recovery.specs.Images.{HasEmptyBase, log_in}
+use Rattle.fast_recovery.specs.Images.{HasEmptyBase, log_in, Recovers}
 use Rattle.fast_recovery.specs.Order.{open_in, closing}
+use Rattle.fast_recovery.specs.Opening.{IsRefusal}
+use Rattle.fast_recovery.proofs.Results.{err-goes-up}
 use Rattle.ids_engine.specs.declared.store.Store.{Store}
-use Rattle.ids_engine.proofs.Opened.{opened_log, one_found, found_keeps, sound_opening, same_last}
+use Rattle.ids_engine.proofs.Accepted.{recovered_is_accepted}
+use Rattle.ids_engine.proofs.Opened.{opened_log, one_found, found_keeps, sound_opening, same_last, refuses_rows}
 use Rattle.ids_engine.proofs.store.Store.from_disk.Goals as goal
 
 pub returns-clause-sound : goal.returns-clause-sound
@@ -75,3 +78,18 @@ returns-clause-kept g c = λ T told recovers.
           base (subst (λ (U : Tables). IsRecovered (log_in o.layout x) U) one was) k.in_order
           (has.replay ∙ ap (λ (last : Option ℕ). run nothing (log_in o.layout x ++ closing last)) (same_last (open_in None (log_in o.layout x)) has.last k.last has.in_order k.in_order)) k.keeps;
     }
+
+pub returns-in_err-opened-clause-accepts : goal.returns-in_err-opened-clause-accepts
+returns-in_err-opened-clause-accepts g c =
+    let x : Image = g.D.Disk.image c.args.disk.now in let fault = c.in_err-opened.field-0.0 in
+    err-goes-up c.from_residual.result _ (λ e. g.D.Disk.tells → (T : Tables) → Recovers x T → ¬ IsRefusal e) c.from_residual.ensures.1 (λ e is told T recovers.
+    let same : e ≡ fault = is in
+    subst (λ k. ¬ IsRefusal k) (sym same) (c.in_err-opened.ensures.accepts told T recovers))
+
+pub returns-in_err-found-clause-accepts : goal.returns-in_err-found-clause-accepts
+returns-in_err-found-clause-accepts g c =
+    let x : Image = g.D.Disk.image c.args.disk.now in let fault = c.in_err-found.field-0.0 in
+    err-goes-up c.from_residual-in_err-found.result _ (λ e. g.D.Disk.tells → (T : Tables) → Recovers x T → ¬ IsRefusal e) c.from_residual-in_err-found.ensures.1 (λ e is told T recovers.
+    let same : e ≡ fault = is in
+    let why = refuses_rows x c.in_ok-opened.opened fault (c.in_ok-opened.ensures.opened told) c.in_err-found.ensures.fault in
+    subst (λ k. ¬ IsRefusal k) (sym same) (recovered_is_accepted x T fault recovers why))
