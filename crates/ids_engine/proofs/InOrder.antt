@@ -1,5 +1,5 @@
 -- The records of a session are in order, and so is each front of them.
-use Rattle.std.proofs.Common.{◌≡◌, ◌==◌, ℕ, Bool, true, false, cond, refl, ap, sym, ◌∙◌, List, [], ◌∷◌, ◌++◌, Option, Some, None, append_assoc, eq-eqb}
+use Rattle.std.proofs.Common.{◌≡◌, ℕ, Bool, true, false, cond, refl, ap, sym, ◌∙◌, List, [], ◌∷◌, ◌++◌, Option, Some, None, append_assoc, eq-eqb}
 use Rattle.std.specs.Prelude.{option_and_then, if◌then◌else◌}
 use Rattle.chunk_map.specs.declared.layout.Layout.{Layout}
 use Rattle.log_records.specs.Entries.{Entry, Begin, Commit, Rollback, HInsert, HDelete, HUpdate, Ckpoint}
