@@ -26,4 +26,5 @@ pub mod Causes
 pub mod Results
 pub mod Broken
 pub mod PagesOwned
+pub mod OrderFronts
 pub mod Accepted

@@ -6,7 +6,7 @@ use Rattle.log_records.specs.Entries.{Entry, Begin, Commit, Rollback, HInsert, H
 use Rattle.log_records.specs.Spelling.{tx_of}
 use Rattle.ids_model.specs.Recovered.{SlotChange, State, run, AreOf, of_tx, note, noted, others, kept, inserted, deleted, updated}
 use Rattle.ids_model.specs.RecoveryLaws.{RunsJoin}
-use Rattle.fast_recovery.specs.Order.{open_by, open_in, closing}
+use Rattle.fast_recovery.specs.Order.{open_by, open_in}
 use Rattle.fast_recovery.specs.InPlace.{all_in_place}
 use Rattle.fast_recovery.specs.LogRead.{AreUpTo, AreAlone, GoesOn}
 use Rattle.fast_recovery.specs.declared.past.Past.{Past}
@@ -24,22 +24,6 @@ open_in-append o (e ∷ xs) ys = at (open_by o e) (λ p. open_in-append p xs ys)
 
 pub open_in-then : (o p : Option ℕ) (xs ys : List Entry) → open_in o xs ≡ Some p → open_in o (xs ++ ys) ≡ open_in p ys
 open_in-then o p xs ys is = open_in-append o xs ys ∙ ap (λ m. option_and_then (λ q. open_in q ys) m) is
-
--- a front of records in order is in order
-pub open_in-front : (o p : Option ℕ) (xs ys : List Entry) → open_in o (xs ++ ys) ≡ Some p → (q : Option ℕ) × (open_in o xs ≡ Some q)
-open_in-front o p xs ys is = at (open_in o xs) (sym (open_in-append o xs ys) ∙ is)
-  where
-    at : (m : Option (Option ℕ)) → option_and_then (λ q. open_in q ys) m ≡ Some p → (q : Option ℕ) × (m ≡ Some q)
-    at None e = cc
-    at (Some q) e = (q, refl)
-
--- what closes a log leaves nothing open
-pub open_in-closing : (o : Option ℕ) → open_in o (closing o) ≡ Some None
-open_in-closing None = refl
-open_in-closing (Some tx) = ap (λ b. option_and_then (λ q. open_in q []) (cond b (Some None) None)) (eq-eqb tx tx refl)
-
-pub open_in-closed : (o : Option ℕ) (log : List Entry) → open_in None log ≡ Some o → open_in None (log ++ closing o) ≡ Some None
-open_in-closed o log order = open_in-then None o log (closing o) order ∙ open_in-closing o
 
 -- a record out of order, whatever follows
 pub open_in-none : (o p : Option ℕ) (xs : List Entry) (e : Entry) (rest : List Entry) → open_in o xs ≡ Some p → open_by p e ≡ None → open_in o (xs ++ e ∷ rest) ≡ None

@@ -9,14 +9,17 @@ use Rattle.log_records.specs.Entries.{Entry, Rollback}
 use Rattle.log_files.specs.Files.{Files}
 use Rattle.log_buffer.specs.Kept.{HasLog, tail_entries}
 use Rattle.ids_model.specs.Tables.{Tables}
-use Rattle.ids_model.specs.Recovered.{State, nothing, run, seen, AreOf}
+use Rattle.ids_model.specs.Slots.{Slots, assign}
+use Rattle.ids_model.specs.Recovered.{State, nothing, run, seen, all_taken_back, AreOf}
+use Rattle.ids_model.specs.Stands.{IsWhole}
 use Rattle.ids_model.specs.Logged.{StandsWhole, IsRecovered}
 use Rattle.ids_model.specs.RecoveryLaws.{RunsJoin, RollbacksAreSeen}
 use Rattle.fast_recovery.specs.Images.{HasEmptyBase, log_region, log_in}
 use Rattle.fast_recovery.specs.Order.{open_in, closing}
 use Rattle.fast_recovery.specs.LogRead.{AreAlone}
 use Rattle.fast_recovery.specs.Opening.{KeepsTables}
-use Rattle.fast_recovery.proofs.Ordered.{alone-run, open_in-front, open_in-closed}
+use Rattle.fast_recovery.proofs.Ordered.{alone-run}
+use Rattle.fast_recovery.proofs.OrderFronts.{open_in-front, open_in-closed}
 use Rattle.fast_recovery.proofs.EmptyBase.{Laws, same-base}
 
 module _ (join : RunsJoin) (rolls : RollbacksAreSeen) where
@@ -37,6 +40,16 @@ module _ (join : RunsJoin) (rolls : RollbacksAreSeen) where
       ap (λ f. run nothing (log ++ f ∷ [])) (sym first) ∙ join nothing log (Rollback tx ∷ []) ∙ rolls s tx alone in
       subst (λ (t : State). StandsWhole t.own (seen t) T) (sym now) stands
   front-recovers log (e ∷ f ∷ front) rest (Some tx) T order parts stands = cc
+
+  -- after it the rows stand as they were seen
+  pub closed-whole : (log : List Entry) (o : Option ℕ) (T : Tables) → open_in None log ≡ Some o → IsRecovered log T
+      → IsWhole (run nothing (log ++ closing o)).own (run nothing (log ++ closing o)).slots
+  closed-whole log o T order recovered =
+      let s : State = run nothing log in
+      let now : State = run nothing (log ++ closing o) in
+      let closed : IsRecovered (log ++ closing o) T = front-recovers log (closing o) [] o T order (sym (append-nil (closing o))) recovered in
+      let quiet : now.standing ≡ [] = ap (λ (t : State). t.standing) (join nothing log (closing o)) ∙ closed-standing s o (alone-run None o log [] refl order) in
+      subst (λ (slots : Slots). IsWhole now.own slots) (ap (λ cs. assign now.slots (all_taken_back cs)) quiet) closed.whole
 
   -- an image whose log has a front of it behind has the same tables
   pub keeps-tables : Laws → ((l m : Layout) (x : Image) → HasLayout l x → HasLayout m x → l ≡ m)

@@ -17,3 +17,4 @@ pub mod FirstsCovered
 pub mod JournalsGrow
 pub mod InOrder
 pub mod Accepted
+pub mod BlankTables

@@ -20,7 +20,7 @@ use Rattle.fast_recovery.specs.Opening.{HasOpened, IsOpened}
 use Rattle.fast_recovery.specs.declared.opening.Opened.{Opened}
 use Rattle.fast_recovery.specs.declared.fault.OpenFault.{OpenFault}
 use Rattle.fast_recovery.specs.declared.fault.OpenFault.TheVariants.{Disk, Memory, NotFormatted, Damaged, LogFull}
-use Rattle.fast_recovery.proofs.Ordered.{open_in-closed}
+use Rattle.fast_recovery.proofs.OrderFronts.{open_in-closed}
 use Rattle.fast_recovery.proofs.SeenTables.{front-recovers}
 use Rattle.ids_engine.specs.Kept.{IsKept}
 use Rattle.ids_engine.specs.Stores.{History, IsHistory, IsLogFor, KeepsStore, IsStore, entries_of, state_of}

@@ -1,11 +1,13 @@
 -- A disk that was just formatted.
 use Rattle.std.specs.Prelude.{◌≡◌, ◌<◌, ◌≤◌, ℕ, ◌+◌, ◌*◌, None}
+use Rattle.std.specs.FinMap.{empty}
 use Rattle.ids_outside.specs.Images.{Image, byte}
 use Rattle.gate_blocks.specs.Gates.{block}
 use Rattle.gate_blocks.specs.declared.region.Region.{Region}
 use Rattle.chunk_map.specs.declared.layout.Layout.{Layout}
 use Rattle.chunk_map.specs.Checkpoints.{IsNewest}
 use Rattle.chunk_map.specs.Formatted.{HasLayout}
+use Rattle.fast_recovery.specs.Images.{Recovers}
 pub use Rattle.fast_recovery.specs.Images.{IsZero, first_checkpoint}
 
 -- a chunk has the same bytes
@@ -22,3 +24,7 @@ pub record IsBlank (l : Layout) (x : Image) : Type 0 where
   pub newest : IsNewest first_checkpoint x
   pub logs : (k : ℕ) → k < l.phys + l.logs * l.log_size → block (both_logs l) k x ≡ None
   pub unowned : (chunk : ℕ) → 1 ≤ chunk → chunk ≤ l.chunks → IsZero x chunk (2048 * l.data_pages)
+
+-- no tables are recovered from it
+abbrev pub BlankRecovers : Type 0
+BlankRecovers = (l : Layout) (x : Image) → IsBlank l x → Recovers x empty

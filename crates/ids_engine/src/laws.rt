@@ -1,4 +1,5 @@
 //! Laws of what is kept of tables, and of opening. Each is the contract of an empty function.
+ghost use Rattle.ids_engine.specs.Blank.{BlankRecovers};
 ghost use Rattle.ids_engine.specs.Kept.{KeptAtFirst, KeptByRecords};
 ghost use Rattle.ids_engine.specs.Openings.{RecoveredIsAccepted};
 
@@ -17,4 +18,9 @@ pub fn kept_by_records()
 /// neither as not formatted nor as damaged.
 pub fn recovered_is_accepted()
     ensures { RecoveredIsAccepted }
+{}
+
+/// From a disk that was just formatted no tables are recovered: so it is opened, and has none.
+pub fn blank_recovers()
+    ensures { BlankRecovers }
 {}

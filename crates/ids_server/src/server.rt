@@ -8,6 +8,7 @@ ghost use Rattle.chunk_map.specs.Layouts.{default_layout};
 ghost use Rattle.chunk_map.specs.Formatted.{IsFormatted};
 ghost use Rattle.ids_model.specs.Tables.{Tables};
 ghost use Rattle.ids_model.specs.Text.{text};
+ghost use Rattle.fast_recovery.specs.Images.{Recovers};
 ghost use Rattle.ids_engine.specs.Blank.{IsBlank};
 ghost use Rattle.ids_engine.specs.Openings.{Refuses};
 ghost use Rattle.sql_reader.specs.Lines.{InGrammar, IsBadAt};
@@ -24,6 +25,7 @@ use crate::words::{Command, command_of};
 use fast_recovery::OpenFault;
 use ids_base::list::List;
 use ids_base::status::{Status, Why};
+use ids_engine::laws::recovered_is_accepted;
 use ids_model::journal::{Committed, Given};
 use ids_model::laws;
 use ids_outside::{Disk, Gate, Sink, Source};
@@ -198,7 +200,11 @@ pub fn server<D: Disk + Send, S: Source, K: Sink + Send, G: Gate + Sync>(
     ensures disk_fault { result.status ≡ Status.DiskFault → Rose (D.fault_count disk) (D.fault_count result.disk) }
     ensures not_formatted { result.status ≡ Status.NotFormatted → D.tells → Refuses (D.image disk) OpenFault.NotFormatted }
     ensures damaged { (place : Spot) → result.status ≡ Status.Damaged place → D.tells → Refuses (D.image disk) (OpenFault.Damaged place) }
+    // What a stop leaves of a run is run again: an image from which tables are recovered is neither not formatted nor damaged.
+    ensures accepts { is_run words.now ≡ true → D.tells → (T : Tables) → Recovers (D.image disk) T
+        → ¬ (result.status ≡ Status.NotFormatted) × ((place : Spot) → ¬ (result.status ≡ Status.Damaged place)) }
 {
+    recovered_is_accepted();
     let _ = gate;
     let mut disk = disk;
     let mut printer = Printer::new(alloc, out);

@@ -1,4 +1,5 @@
 use Rattle.std.proofs.Common.{sym, subst, []}
+use Rattle.fast_recovery.specs.declared.fault.OpenFault.TheVariants.{NotFormatted, Damaged}
 use Rattle.ids_server.specs.Printing.{PrinterCarries, PrinterIsCaused}
 use Rattle.ids_server.proofs.Carrying.{starts-carrying, starts-caused, not-true}
 use Rattle.ids_server.proofs.server.server.Goals as goal
@@ -23,3 +24,10 @@ pub returns-clause-sink_fault : goal.returns-clause-sink_fault
 returns-clause-sink_fault g c = λ failed.
     let caused = subst (λ p. PrinterIsCaused g.K.Sink.fault_count p (g.K.Sink.fault_count c.args.out)) (sym c.new-printer.ensures) (starts-caused g.K.Sink.fault_count c.args.out) in
     c.finish-out.ensures.cause _ (c.answer-ran.ensures.printed.caused _ caused) (c.answer-ran.ensures.failed.0 failed)
+
+pub returns-clause-accepts : goal.returns-clause-accepts
+returns-clause-accepts g c = λ run tells T recovers.
+    let x = g.D.Disk.image c.args.disk in (
+      λ is. c.recovered_is_accepted.ensures x T NotFormatted recovers (c.answer-ran.ensures.not_formatted is tells) tt,
+      λ place is. c.recovered_is_accepted.ensures x T (Damaged place) recovers (c.answer-ran.ensures.damaged place is tells) tt,
+    )
