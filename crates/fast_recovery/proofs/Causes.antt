@@ -9,9 +9,9 @@ use Rattle.chunk_map.specs.declared.layout.Layout.{Layout}
 use Rattle.chunk_map.specs.declared.fault.MapFault.{MapFault}
 use Rattle.chunk_map.specs.declared.fault.MapFault.TheVariants as map
 use Rattle.chunk_map.specs.Formatted.{HasLayout, IsFormatted, IdentityFault, NewestFault, NamesIdentity}
-use Rattle.fast_recovery.specs.Images.{log_region}
+use Rattle.fast_recovery.specs.Images.{log_region, page_count}
 use Rattle.fast_recovery.specs.Faults.{fault_of}
-use Rattle.fast_recovery.specs.LogRead.{page_count, IsRefused, IsFirstDamagedRecord, IsDamagedAt, IsLogFull, OpenCause, LogFault, RecordsFault}
+use Rattle.fast_recovery.specs.LogRead.{IsRefused, IsFirstDamagedRecord, IsDamagedAt, IsLogFull, OpenCause, LogFault, RecordsFault}
 use Rattle.fast_recovery.specs.declared.past.Past.{Past}
 use Rattle.fast_recovery.specs.Opening.{ClosingFault, WasFormatted}
 use Rattle.fast_recovery.specs.declared.fault.OpenFault.{OpenFault}

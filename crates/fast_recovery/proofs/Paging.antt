@@ -19,7 +19,18 @@ use Rattle.fast_recovery.specs.Order.{closing}
 use Rattle.fast_recovery.specs.InPlace.{is_there, is_table_number, may_be_page_of, may_put, may_be, in_place, all_in_place}
 use Rattle.fast_recovery.specs.Paged.{IsPageOwner, IsPagedRow, IsPaged}
 use Rattle.fast_recovery.specs.PagedStates.{IsPagedChange, IsPagedState}
+use Rattle.fast_recovery.specs.KeepingPages.{HasRanges}
 use Rattle.fast_recovery.proofs.PlaceTests.{IsThere, there-is, number-is, free-is, row-is}
+
+-- the fields of a record in its ranges
+ranges-of : (e : Entry) → IsEntry e → HasRanges e
+ranges-of (Begin tx session) is = tt
+ranges-of (Commit tx) is = tt
+ranges-of (Rollback tx) is = tt
+ranges-of (HInsert tx table row after) is = is
+ranges-of (HDelete tx table row before) is = is
+ranges-of (HUpdate tx table row before after) is = is
+ranges-of (Ckpoint named) is = tt
 
 -- pages with the owners that they had, and others
 abbrev Grows : Own → Own → Type 0
@@ -137,7 +148,7 @@ module _ (pages : ℕ) where
       owners q w there number false same has = paged.stands.owners q w has
 
   -- a record in its place
-  paged-step : (s : State) (e : Entry) → IsPagedState pages s → in_place pages s.own e ≡ true → IsEntry e → IsPagedState pages (run s (e ∷ []))
+  pub paged-step : (s : State) (e : Entry) → IsPagedState pages s → in_place pages s.own e ≡ true → HasRanges e → IsPagedState pages (run s (e ∷ []))
   paged-step s (Begin tx session) paged placed is = paged
   paged-step s (Commit tx) paged placed is = record { stands = paged.stands; taken_out = all-others (IsPagedChange s.own) tx s.standing paged.taken_out }
   paged-step s (Rollback tx) paged placed is = paged-rollback s tx paged
@@ -162,7 +173,7 @@ module _ (pages : ℕ) where
   paged-run join s [] paged placed each = paged
   paged-run join s (e ∷ es) paged placed each =
       let was = both_true (in_place pages s.own e) (all_in_place pages (run s (e ∷ [])).own es) placed in
-      subst (λ (t : State). IsPagedState pages t) (sym (join s (e ∷ []) es)) (paged-run join (run s (e ∷ [])) es (paged-step s e paged was.0 each.0) was.1 each.1)
+      subst (λ (t : State). IsPagedState pages t) (sym (join s (e ∷ []) es)) (paged-run join (run s (e ∷ [])) es (paged-step s e paged was.0 (ranges-of e each.0)) was.1 each.1)
 
   -- also where the open transaction is rolled back
   pub paged-closing : (s : State) (last : Option ℕ) → IsPagedState pages s → IsPagedState pages (run s (closing last))

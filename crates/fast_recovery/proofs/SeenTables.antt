@@ -1,6 +1,7 @@
 -- The ROLLBACK of the open transaction leaves the tables that are recovered.
-use Rattle.std.proofs.Common.{◌≡◌, ℕ, List, [], ◌∷◌, ◌++◌, Option, Some, None, refl, sym, ◌∙◌, ap, subst, append_assoc}
+use Rattle.std.proofs.Common.{◌≡◌, ℕ, true, List, [], ◌∷◌, ◌++◌, Option, Some, None, refl, sym, ◌∙◌, ap, subst, append_assoc}
 use Rattle.std.proofs.lemmas.List.{append-nil}
+use Rattle.std.specs.FinMap.{empty}
 use Rattle.ids_outside.specs.Images.{Image, SameBut}
 use Rattle.gate_blocks.specs.Gates.{RegionPlaces}
 use Rattle.chunk_map.specs.declared.layout.Layout.{Layout}
@@ -9,17 +10,19 @@ use Rattle.log_records.specs.Entries.{Entry, Rollback}
 use Rattle.log_files.specs.Files.{Files}
 use Rattle.log_buffer.specs.Kept.{HasLog, tail_entries}
 use Rattle.ids_model.specs.Tables.{Tables}
-use Rattle.ids_model.specs.Slots.{Slots, assign}
-use Rattle.ids_model.specs.Recovered.{State, nothing, run, seen, all_taken_back, AreOf}
+use Rattle.ids_model.specs.Slots.{Slots, assign, own_all}
+use Rattle.ids_model.specs.Recovered.{State, nothing, run, seen, owns, all_taken_back, AreOf}
 use Rattle.ids_model.specs.Stands.{IsWhole}
 use Rattle.ids_model.specs.Logged.{StandsWhole, IsRecovered}
 use Rattle.ids_model.specs.RecoveryLaws.{RunsJoin, RollbacksAreSeen}
-use Rattle.fast_recovery.specs.Images.{HasEmptyBase, log_region, log_in}
+use Rattle.fast_recovery.specs.Images.{HasEmptyBase, log_region, log_in, page_count}
 use Rattle.fast_recovery.specs.Order.{open_in, closing}
+use Rattle.fast_recovery.specs.InPlace.{all_in_place}
 use Rattle.fast_recovery.specs.LogRead.{AreAlone}
 use Rattle.fast_recovery.specs.Opening.{KeepsTables}
 use Rattle.fast_recovery.proofs.Ordered.{alone-run}
 use Rattle.fast_recovery.proofs.OrderFronts.{open_in-front, open_in-closed}
+use Rattle.fast_recovery.proofs.Placed.{places-append, places-closing}
 use Rattle.fast_recovery.proofs.EmptyBase.{Laws, same-base}
 
 module _ (join : RunsJoin) (rolls : RollbacksAreSeen) where
@@ -59,6 +62,7 @@ module _ (join : RunsJoin) (rolls : RollbacksAreSeen) where
       let same : was.layout ≡ l = one was.layout l x was.base.layout has in
       let base = subst (λ m. HasEmptyBase m x) same was.base in
       let tables : IsRecovered (log_in l x) T = subst (λ m. IsRecovered (log_in m x) T) same was.tables in
+      let placed : all_in_place (page_count l) empty (log_in l x) ≡ true = subst (λ m. all_in_place (page_count m) empty (log_in m x) ≡ true) same was.in_place in
       let tail : log_in l y ≡ log_in l x ++ front = (λ i. tail_entries (sym region i) (sym first i) y) ∙ log.tail in
       let closed : open_in None ((log_in l x ++ front) ++ rest) ≡ Some None =
       ap (open_in None) (append_assoc (log_in l x) front rest ∙ ap (λ es. log_in l x ++ es) (sym parts)) ∙ open_in-closed o (log_in l x) order in
@@ -68,5 +72,7 @@ module _ (join : RunsJoin) (rolls : RollbacksAreSeen) where
         base = same-base laws l x y (subst (λ r. SameBut (RegionPlaces r) x y) region log.elsewhere) base;
         last = still.0;
         in_order = ap (open_in None) tail ∙ still.1;
+        in_place = ap (all_in_place (page_count l) empty) tail
+            ∙ places-append join (page_count l) empty (log_in l x) front placed (places-closing join (page_count l) (own_all empty (owns (log_in l x))) o front rest parts);
         tables = subst (λ t. IsRecovered t T) (sym tail) (front-recovers (log_in l x) front rest o T order parts tables);
       }

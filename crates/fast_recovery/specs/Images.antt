@@ -1,5 +1,6 @@
 -- What an image holds while the tables are kept by the logical log alone: nothing stands on the pages, and the log begins with block 1.
 use Rattle.std.specs.Prelude.{◌≡◌, ◌<◌, ◌≤◌, ℕ, ◌+◌, ◌*◌, true, List, Option, Some, None}
+use Rattle.std.specs.FinMap.{empty}
 use Rattle.ids_outside.specs.Images.{Image, byte}
 use Rattle.gate_blocks.specs.Gates.{block}
 use Rattle.gate_blocks.specs.declared.region.Region.{Region}
@@ -12,6 +13,7 @@ use Rattle.log_buffer.specs.Kept.{tail_entries}
 use Rattle.ids_model.specs.Tables.{Tables}
 use Rattle.ids_model.specs.Logged.{IsRecovered}
 use Rattle.fast_recovery.specs.Order.{open_in}
+use Rattle.fast_recovery.specs.InPlace.{all_in_place}
 
 -- the two logs of a layout
 abbrev pub phys_region : Layout → Region
@@ -19,6 +21,10 @@ phys_region l = record { chunk = 0; first = 3; count = l.phys }
 
 abbrev pub log_region : Layout → Region
 log_region l = record { chunk = 0; first = 3 + l.phys; count = l.logs * l.log_size }
+
+-- how many data pages a layout has
+abbrev pub page_count : Layout → ℕ
+page_count l = l.chunks * l.data_pages
 
 -- the records of the log
 abbrev pub log_in : Layout → Image → List Entry
@@ -39,10 +45,11 @@ pub record HasEmptyBase (l : Layout) (x : Image) : Type 0 where
   pub physical : (k : ℕ) → k < l.phys → block (phys_region l) k x ≡ None
   pub unowned : (chunk : ℕ) → 1 ≤ chunk → chunk ≤ l.chunks → IsZero x chunk (2048 * l.data_pages)
 
--- the tables that are recovered from an image are those that its log stands for, whose records are in order and whose rows are well formed
+-- the tables that are recovered from an image are those that its log stands for, whose records are in order and in their places, and whose rows are well formed
 pub record Recovers (x : Image) (T : Tables) : Type 0 where
   pub layout : Layout
   pub base : HasEmptyBase layout x
   pub last : Option ℕ
   pub in_order : open_in None (log_in layout x) ≡ Some last
+  pub in_place : all_in_place (page_count layout) empty (log_in layout x) ≡ true
   pub tables : IsRecovered (log_in layout x) T

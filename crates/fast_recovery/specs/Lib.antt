@@ -7,6 +7,7 @@ pub mod Order
 pub mod InPlace
 pub mod Paged
 pub mod PagedStates
+pub mod KeepingPages
 pub mod Found
 pub mod Pages
 pub mod BrokenRows

@@ -18,7 +18,7 @@ use Rattle.log_files.specs.Log.{body_at, tail_from}
 use Rattle.log_buffer.specs.Kept.{entries_in, tail_entries}
 use Rattle.ids_model.specs.Slots.{own_all}
 use Rattle.ids_model.specs.Recovered.{SlotChange, nothing, run, owns, AreOf}
-use Rattle.fast_recovery.specs.Images.{first_checkpoint, log_region, log_in}
+use Rattle.fast_recovery.specs.Images.{first_checkpoint, log_region, log_in, page_count}
 use Rattle.fast_recovery.specs.Order.{open_in}
 use Rattle.fast_recovery.specs.InPlace.{all_in_place, is_taken}
 use Rattle.fast_recovery.specs.declared.past.Past.{Past}
@@ -28,10 +28,6 @@ use Rattle.fast_recovery.specs.declared.fault.OpenFault.TheVariants.{Disk, Memor
 -- no record is of a transaction with a greater number
 abbrev pub AreUpTo : ℕ → List Entry → Type 0
 AreUpTo last log = AllByRecursion (λ (e : Entry). tx_of e ≤ last) log
-
--- how many data pages a layout has
-abbrev pub page_count : Layout → ℕ
-page_count l = l.chunks * l.data_pages
 
 -- the records are in order and in their places among so many pages, and make this state
 pub record IsAfter (pages : ℕ) (log : List Entry) (p : Past) : Type 0 where

@@ -13,10 +13,10 @@ use Rattle.log_buffer.specs.Buffers.{empty_at}
 use Rattle.log_buffer.specs.Kept.{Flushed, HasLog, KeepsLog, tail_entries}
 use Rattle.ids_model.specs.Tables.{Tables}
 use Rattle.ids_model.specs.Recovered.{nothing, run}
-use Rattle.fast_recovery.specs.Images.{Recovers, first_checkpoint, log_region, log_in}
+use Rattle.fast_recovery.specs.Images.{Recovers, first_checkpoint, log_region, log_in, page_count}
 use Rattle.fast_recovery.specs.Order.{open_in, closing}
 use Rattle.fast_recovery.specs.InPlace.{all_in_place}
-use Rattle.fast_recovery.specs.LogRead.{AreUpTo, HasRead, page_count}
+use Rattle.fast_recovery.specs.LogRead.{AreUpTo, HasRead}
 use Rattle.fast_recovery.specs.declared.past.Past.{Past}
 use Rattle.fast_recovery.specs.declared.opening.Opened.{Opened}
 use Rattle.fast_recovery.specs.declared.fault.OpenFault.{OpenFault}

@@ -20,11 +20,11 @@ ghost use Rattle.log_buffer.specs.Buffers.{empty_at};
 ghost use Rattle.log_buffer.specs.Kept.{Flushed, KeepsLog, Outlives};
 ghost use Rattle.ids_model.specs.Tables.{Tables};
 ghost use Rattle.ids_model.specs.Recovered.{run};
-ghost use Rattle.fast_recovery.specs.Images.{first_checkpoint, log_region, Recovers};
+ghost use Rattle.fast_recovery.specs.Images.{first_checkpoint, log_region, page_count, Recovers};
 ghost use Rattle.fast_recovery.specs.Order.{closing};
 ghost use Rattle.fast_recovery.specs.Paged.{IsPaged};
 ghost use Rattle.fast_recovery.specs.PagedStates.{IsPagedState};
-ghost use Rattle.fast_recovery.specs.LogRead.{OpenCause, AreAlone, page_count};
+ghost use Rattle.fast_recovery.specs.LogRead.{OpenCause, AreAlone};
 ghost use Rattle.fast_recovery.specs.Opening.{files_from, FoundIn, SameLog, HasOpened, IsOpened, KeepsOpened, IsSince, OnlyBehind, TablesStay, IsWant, ClosingFault, IsRefusal, WasFormatted};
 
 use crate::fault::OpenFault;

@@ -9,12 +9,12 @@ use Rattle.log_files.specs.Files.{Files}
 use Rattle.log_buffer.specs.Kept.{KeepsLog}
 use Rattle.ids_model.specs.Recovered.{State, nothing, run}
 use Rattle.ids_model.specs.Tables.{Tables}
-use Rattle.fast_recovery.specs.Images.{log_region, log_in, Recovers}
+use Rattle.fast_recovery.specs.Images.{log_region, log_in, page_count, Recovers}
 use Rattle.fast_recovery.specs.Order.{open_in, closing}
 use Rattle.fast_recovery.specs.InPlace.{all_in_place}
 use Rattle.fast_recovery.specs.Paged.{IsPaged}
 use Rattle.fast_recovery.specs.PagedStates.{IsPagedState}
-use Rattle.fast_recovery.specs.LogRead.{page_count, AreUpTo, OpenCause}
+use Rattle.fast_recovery.specs.LogRead.{AreUpTo, OpenCause}
 use Rattle.fast_recovery.specs.Opening.{files_from, WasFormatted, IsWant, ClosingFault, IsRefusal}
 use Rattle.fast_recovery.proofs.BlocksRead.{length-held}
 use Rattle.fast_recovery.proofs.Accepted.{accepted, want-accepted, closing-accepted}
@@ -167,7 +167,7 @@ returns-in_err-layout-clause-accepts g c =
     let base = g.D.Disk.image c.args.disk.now in let fault = c.in_err-layout.field-0.0 in
     err-goes-up c.from_residual.result _ (λ e. g.D.Disk.tells → (T : Tables) → Recovers base T → ¬ IsRefusal e) c.from_residual.ensures.1 (λ e is tells T recovers.
     let same : e ≡ fault = is in
-    accepted base T e recovers (subst (OpenCause base) (sym same) (c.in_err-layout.ensures.fault tells)))
+    accepted c.runs_join.ensures (record { layout = c.one_of_each.ensures.layout; newest = c.one_of_each.ensures.newest }) base T e recovers (subst (OpenCause base) (sym same) (c.in_err-layout.ensures.fault tells)))
 
 pub returns-in_err-files-clause-accepts : goal.returns-in_err-files-clause-accepts
 returns-in_err-files-clause-accepts g c =
