@@ -1,5 +1,5 @@
 -- An image from which tables are recovered is formatted, and nothing of it is damaged.
-use Rattle.std.proofs.Common.{◌≡◌, inl, inr, ℕ, take, codes, Option, Some, None, refl, sym, ◌∙◌, ap}
+use Rattle.std.proofs.Common.{◌≡◌, inl, inr, ℕ, take, codes, None, refl, sym, ◌∙◌, ap}
 use Rattle.ids_base.specs.declared.status.Place.TheVariants.{Identity, Checkpoint, Entry, DataPage, Block, Record, Row}
 use Rattle.ids_outside.specs.Images.{Image}
 use Rattle.chunk_map.specs.Layouts.{identity_body}
