@@ -1,5 +1,6 @@
--- From a disk that was just formatted no tables are recovered.
-use Rattle.std.proofs.Common.{◌≡◌, ◌==◌, ℕ, ◌+◌, ◌-◌, ◌*◌, ◌%◌, ◌<◌, refl, ap, sym, ◌∙◌, subst, List, [], Option, Some, None, arith}
+-- A disk that was just formatted recovers the empty set of tables.
+use Rattle.std.proofs.Common.{◌≡◌, ◌==◌, ℕ, ◌+◌, ◌-◌, ◌*◌, ◌%◌, ◌<◌, ◌≤◌, refl, ap, sym, ◌∙◌, subst, List, [], Some, None, arith}
+use Rattle.std.proofs.Math.Nat.{mul-le-mul_left}
 use Rattle.std.specs.Prelude.{if◌then◌else◌}
 use Rattle.std.specs.FinMap.{empty}
 use Rattle.ids_outside.specs.Images.{Image, byte, bytes_of}
@@ -31,7 +32,9 @@ within : (count : ℕ) → 0 < count → (1 - 1) % count < count
 within count some = omega arith
 
 some_blocks : (l : Layout) → 3 ≤ l.logs → 8 ≤ l.log_size → 0 < l.logs * l.log_size
-some_blocks l logs size = grind arith
+some_blocks l logs size =
+    let one : 1 ≤ l.log_size = omega arith in
+    omega (arith, mul-le-mul_left l.logs one)
 
 -- so the log has no records
 no_records : (l : Layout) (x : Image) → IsBlank l x → log_in l x ≡ []

@@ -20,7 +20,7 @@ pub fn recovered_is_accepted()
     ensures { RecoveredIsAccepted }
 {}
 
-/// From a disk that was just formatted no tables are recovered: so it is opened, and has none.
+/// A disk that was just formatted recovers the empty set of tables: so it is opened, and has none.
 pub fn blank_recovers()
     ensures { BlankRecovers }
 {}
