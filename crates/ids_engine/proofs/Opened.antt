@@ -16,7 +16,7 @@ use Rattle.ids_model.specs.RecoveryLaws.{RunsJoin, RollbacksAreSeen, TablesAreOn
 use Rattle.fast_recovery.specs.Images.{HasEmptyBase, log_in}
 use Rattle.fast_recovery.specs.Order.{open_in, closing}
 use Rattle.fast_recovery.specs.LogRead.{OpenCause}
-use Rattle.fast_recovery.specs.Opening.{HasOpened, IsOpened}
+use Rattle.fast_recovery.specs.Opening.{HasOpened, IsOpened, IsCounted, TablesStay}
 use Rattle.fast_recovery.specs.declared.opening.Opened.{Opened}
 use Rattle.fast_recovery.specs.declared.fault.OpenFault.{OpenFault}
 use Rattle.fast_recovery.specs.declared.fault.OpenFault.TheVariants.{Disk, Memory, NotFormatted, Damaged, LogFull}
@@ -150,3 +150,13 @@ refuses_rows x o e has (inr (row, is, bad)) = subst (Refuses x) (sym is) (record
 pub no_disk_fault : (s : State) → ¬ RowsFault s Disk
 no_disk_fault s (inl same) = cc
 no_disk_fault s (inr (row, is, bad)) = cc
+
+-- Where tables stay at the moments of one kind, they stay at those of a kind of fewer.
+
+module _ {D : Type 0} (now : D → ℕ) (image : D → Image) (can_leave : D → Image → Type 0) (left_at : D → ℕ → Image → Type 0) where
+  counted_too : (old : D) (settled other : Type 0) (m : ℕ) → (other → settled) → IsCounted now image can_leave old other m → IsCounted now image can_leave old settled m
+  counted_too old settled other m so (inl early) = inl early
+  counted_too old settled other m so (inr late) = inr (late.0, so late.1)
+
+  pub stay_for : (old new : D) (settled other : Type 0) → (other → settled) → TablesStay now image can_leave left_at old new settled → TablesStay now image can_leave left_at old new other
+  stay_for old new settled other so stay = λ room m c counted left. stay room m c (counted_too old settled other m so counted) left

@@ -4,7 +4,6 @@ use Rattle.ids_base.specs.declared.status.Status.{Status}
 use Rattle.ids_base.specs.declared.status.Status.TheVariants.{Done, BadWords, BadScript, DiskFault, Memory, SinkFault, SourceFault, TooLong, NotFormatted, Damaged, AlreadyFormatted, TooSmall, LogFull}
 use Rattle.ids_outside.specs.Counts.{last_count}
 use Rattle.ids_outside.specs.Images.{Image}
-use Rattle.ids_outside.specs.Stops.{Only}
 use Rattle.ids_model.specs.declared.journal.Committed.{Committed}
 use Rattle.ids_model.specs.declared.journal.Given.{Given}
 use Rattle.ids_model.specs.Tables.{Tables}
@@ -14,6 +13,7 @@ use Rattle.ids_model.specs.Answered.{Answered, fold_first}
 use Rattle.ids_model.specs.Covered.{Covered}
 use Rattle.ids_engine.specs.Journals.{AreTimely}
 use Rattle.fast_recovery.specs.Images.{Recovers}
+use Rattle.fast_recovery.specs.Opening.{IsCounted}
 use Rattle.sql_reader.specs.Lines.{InGrammar}
 use Rattle.sql_reader.specs.Plans.{IsScriptOf}
 
@@ -101,6 +101,22 @@ is_of_init AlreadyFormatted = true
 is_of_init (TooSmall pages needed) = false
 is_of_init LogFull = false
 
+-- an answer that comes only once the disk was found formatted
+abbrev pub has_opened : Status → Bool
+has_opened Done = true
+has_opened BadWords = false
+has_opened (BadScript byte why) = false
+has_opened DiskFault = false
+has_opened Memory = false
+has_opened SinkFault = true
+has_opened SourceFault = false
+has_opened TooLong = false
+has_opened NotFormatted = false
+has_opened (Damaged place) = true
+has_opened AlreadyFormatted = false
+has_opened (TooSmall pages needed) = false
+has_opened LogFull = true
+
 -- for the script of these bytes, the journal matches it and the replies, and each reply says what the tables of its moment say, from those that were found;
 -- where all was done, each statement has its reply; where the bytes are no script, nothing was given and nothing committed
 pub record Serves (bytes : List ℕ) (found : Tables) (status : Status) (journal : List Committed) (given : List Given) : Type 0 where
@@ -124,14 +140,18 @@ pub record LeavesFirst (T : Tables) (journal : List Committed) (m : ℕ) (c : Im
   pub covered : Covered journal m k
   pub recovers : Recovers c (fold_first T journal k)
 
--- What `run` leaves for a script of these bytes, over the tables that opening found. Where an image recovers tables, those are the ones that were found, unless opening was refused;
--- where nothing else could be left at first, a stop at each moment of the call leaves the tables after the first entries of the journal, with each that was acknowledged by then;
--- and where all was done, what a stop leaves has the whole journal.
+-- the disk did not fail, or it did so once a reply was given
+abbrev pub HasBegun : Status → List Given → Type 0
+HasBegun status given = (¬ (status ≡ DiskFault)) ⊎ (¬ (given ≡ []))
+
+-- What `run` leaves for a script of these bytes, over the tables that opening found. Where an image recovers tables, those are the ones that were found, unless opening was refused.
+-- A stop at a moment of the call leaves the tables after the first entries of the journal, with each that was acknowledged by then: at the moment of its beginning where nothing else
+-- could be left then; and at each moment behind it, unless the disk failed before there was a reply. Where all was done, what a stop leaves has the whole journal.
 pub record RunsFrom {D : Type 0} (tells : Type 0) (now : D → ℕ) (image : D → Image) (can_leave : D → Image → Type 0) (left_at : D → ℕ → Image → Type 0)
     (bytes : List ℕ) (found : Tables) (old new : D) (status : Status) (journal : List Committed) (given : List Given) : Type 0 where
   pub legal : IsLegal found journal
   pub serves : Serves bytes found status journal given
   pub opened : tells → (T : Tables) → Recovers (image old) T → ((journal ≡ []) × (given ≡ [])) ⊎ (T ≡ found)
-  pub any_moment : Only (image old) (can_leave old) → now new < last_count → (T : Tables) → Recovers (image old) T
-      → (m : ℕ) (c : Image) → now old ≤ m → left_at new m c → LeavesFirst T journal m c
+  pub any_moment : now new < last_count → (T : Tables) → Recovers (image old) T
+      → (m : ℕ) (c : Image) → IsCounted now image can_leave old (HasBegun status given) m → left_at new m c → LeavesFirst T journal m c
   pub at_end : status ≡ Done → tells → (T : Tables) → Recovers (image old) T → (c : Image) → can_leave new c → Recovers c (fold_journal T journal)

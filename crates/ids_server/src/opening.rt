@@ -11,9 +11,11 @@ ghost use Rattle.ids_model.specs.Text.{text};
 ghost use Rattle.ids_engine.specs.Blank.{IsBlank};
 ghost use Rattle.ids_engine.specs.Openings.{Refuses};
 ghost use Rattle.sql_reader.specs.Lines.{InGrammar, texts_of};
+ghost use Rattle.ids_outside.specs.Images.{Image};
 ghost use Rattle.fast_recovery.specs.declared.fault.OpenFault as opening;
+ghost use Rattle.fast_recovery.specs.Opening.{WasFormatted};
 ghost use Rattle.ids_server.specs.Printing.{PrinterPuts};
-ghost use Rattle.ids_server.specs.Serving.{RunsFrom, is_of_script, is_of_init};
+ghost use Rattle.ids_server.specs.Serving.{RunsFrom, is_of_script, is_of_init, has_opened};
 
 use crate::printer::Printer;
 use crate::runner::Runner;
@@ -59,7 +61,8 @@ fn status_of(fault: OpenFault) -> Status
     ensures not_done { ¬ (result ≡ Status.Done) }
     ensures not_sink { ¬ (result ≡ Status.SinkFault) }
     ensures no_bad_script { (byte : ℕ) (why : Reason) → ¬ (result ≡ Status.BadScript byte why) }
-    ensures disk { result ≡ Status.DiskFault → fault ≡ OpenFault.Disk }
+    ensures disk { (result ≡ Status.DiskFault) ↔ (fault ≡ OpenFault.Disk) }
+    ensures was_formatted { (x : Image) → WasFormatted x fault → has_opened result ≡ true → IsFormatted x }
     ensures not_formatted { result ≡ Status.NotFormatted → fault ≡ OpenFault.NotFormatted }
     ensures damaged { (place : Spot) → result ≡ Status.Damaged place → fault ≡ OpenFault.Damaged place }
 {
@@ -91,6 +94,7 @@ pub(crate) fn run_script<D: Disk, K: Sink>(
     ensures failed { (result.status ≡ Status.SinkFault) ↔ (printer.new.failed ≡ true) }
     ensures disk_fault { result.status ≡ Status.DiskFault → Rose (D.fault_count disk.old) (D.fault_count disk.new) }
     ensures not_formatted { result.status ≡ Status.NotFormatted → D.tells → Refuses (D.image disk.old) OpenFault.NotFormatted }
+    ensures was_formatted { has_opened result.status ≡ true → D.tells → IsFormatted (D.image disk.old) }
     ensures damaged { (place : Spot) → result.status ≡ Status.Damaged place → D.tells → Refuses (D.image disk.old) (OpenFault.Damaged place) }
 {
     laws::served_at_start();

@@ -15,7 +15,7 @@ ghost use Rattle.sql_reader.specs.Lines.{InGrammar, IsBadAt};
 ghost use Rattle.ids_server.specs.Words.{is_run, is_init, is_command};
 ghost use Rattle.ids_server.specs.Lines.{status_line};
 ghost use Rattle.ids_server.specs.Printing.{IsFront, TakesPart, PrinterPuts, PrinterCarries, PrinterIsCaused};
-ghost use Rattle.ids_server.specs.Serving.{RunsFrom, has_read, is_of_script};
+ghost use Rattle.ids_server.specs.Serving.{RunsFrom, has_read, has_opened, is_of_script};
 
 use crate::opening::{Ran, format, run_script};
 use crate::printer::Printer;
@@ -60,6 +60,7 @@ fn check_and_run<D: Disk, K: Sink>(
     ensures failed { (result.status ≡ Status.SinkFault) ↔ (printer.new.failed ≡ true) }
     ensures disk_fault { result.status ≡ Status.DiskFault → Rose (D.fault_count disk.old) (D.fault_count disk.new) }
     ensures not_formatted { result.status ≡ Status.NotFormatted → D.tells → Refuses (D.image disk.old) OpenFault.NotFormatted }
+    ensures was_formatted { has_opened result.status ≡ true → D.tells → IsFormatted (D.image disk.old) }
     ensures damaged { (place : Spot) → result.status ≡ Status.Damaged place → D.tells → Refuses (D.image disk.old) (OpenFault.Damaged place) }
 {
     laws::served_at_start();
@@ -93,6 +94,7 @@ fn run_source<D: Disk, S: Source, K: Sink>(
     ensures failed { (result.status ≡ Status.SinkFault) ↔ (printer.new.failed ≡ true) }
     ensures disk_fault { result.status ≡ Status.DiskFault → Rose (D.fault_count disk.old) (D.fault_count disk.new) }
     ensures not_formatted { result.status ≡ Status.NotFormatted → D.tells → Refuses (D.image disk.old) OpenFault.NotFormatted }
+    ensures was_formatted { has_opened result.status ≡ true → D.tells → IsFormatted (D.image disk.old) }
     ensures damaged { (place : Spot) → result.status ≡ Status.Damaged place → D.tells → Refuses (D.image disk.old) (OpenFault.Damaged place) }
 {
     laws::served_at_start();
@@ -129,6 +131,7 @@ fn answer<D: Disk, S: Source, K: Sink>(
     ensures failed { (result.status ≡ Status.SinkFault) ↔ (printer.new.failed ≡ true) }
     ensures disk_fault { result.status ≡ Status.DiskFault → Rose (D.fault_count disk.old) (D.fault_count disk.new) }
     ensures not_formatted { result.status ≡ Status.NotFormatted → D.tells → Refuses (D.image disk.old) OpenFault.NotFormatted }
+    ensures was_formatted { is_run words.now ≡ true → has_opened result.status ≡ true → D.tells → IsFormatted (D.image disk.old) }
     ensures damaged { (place : Spot) → result.status ≡ Status.Damaged place → D.tells → Refuses (D.image disk.old) (OpenFault.Damaged place) }
 {
     match command_of(words) {
@@ -176,7 +179,8 @@ pub fn server<D: Disk + Send, S: Source, K: Sink + Send, G: Gate + Sync>(
     requires fresh { K.tells → K.taken out ≡ [] }
 
     // A run: the journal is legal from the tables that opening found and matches the script; a stop at any moment leaves the tables
-    // after its first entries, with each that was acknowledged by then.
+    // after its first entries, with each that was acknowledged by then. Where something was pending as the call began, at any moment
+    // behind that, unless the disk failed before there was a reply.
     ensures ran { is_run words.now ≡ true → (found : Tables) × (bytes : List ℕ) × (S.tells → S.left script.old ≡ bytes)
         × RunsFrom D.tells D.now D.image D.can_leave D.left_at bytes found disk result.disk result.status result.journal result.given }
     ensures idle { is_run words.now ≡ false → (result.journal ≡ []) × (result.given ≡ []) }
@@ -199,6 +203,7 @@ pub fn server<D: Disk + Send, S: Source, K: Sink + Send, G: Gate + Sync>(
     ensures sink_fault { result.status ≡ Status.SinkFault → Rose (K.fault_count out) (K.fault_count result.out) }
     ensures disk_fault { result.status ≡ Status.DiskFault → Rose (D.fault_count disk) (D.fault_count result.disk) }
     ensures not_formatted { result.status ≡ Status.NotFormatted → D.tells → Refuses (D.image disk) OpenFault.NotFormatted }
+    ensures was_formatted { is_run words.now ≡ true → has_opened result.status ≡ true → D.tells → IsFormatted (D.image disk) }
     ensures damaged { (place : Spot) → result.status ≡ Status.Damaged place → D.tells → Refuses (D.image disk) (OpenFault.Damaged place) }
     // What a stop leaves of a run is run again: an image from which tables are recovered is neither not formatted nor damaged.
     ensures accepts { is_run words.now ≡ true → D.tells → (T : Tables) → Recovers (D.image disk) T

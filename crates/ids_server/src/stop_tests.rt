@@ -119,6 +119,28 @@ fn promised(journal: &[Committed], moment: u64) -> u64 {
     }
 }
 
+// The most transactions of the first script that stops from a moment on leave. None leaves fewer than were acknowledged.
+fn most_left(alloc: Global, ended: &Run, from: u64) -> Result<u64, Fail> {
+    let mut most = 0;
+    for moment in from..last_moment(&ended.disk)? + 1 {
+        for kind in KINDS {
+            let looks = b"SELECT * FROM t WHERE k = 7";
+            let again = found(alloc, &ended.disk, moment, kind, looks)?;
+            if again.status != Status::Done {
+                return Err("another status".into());
+            }
+            let Some(there) = transactions(again.out.taken()) else {
+                return Err("another text".into());
+            };
+            if there < promised(ended.journal.as_slice(), moment) {
+                return Err("a transaction is lost".into());
+            }
+            most = most.max(there);
+        }
+    }
+    Ok(most)
+}
+
 #[test]
 fn stopped_at_each_moment(rt: HostRuntime) -> Result<(), Fail> {
     let alloc = rt.alloc();
@@ -126,28 +148,33 @@ fn stopped_at_each_moment(rt: HostRuntime) -> Result<(), Fail> {
     let entry = disk.moment();
     let ended = run(alloc, disk, FIRST)?;
     assert_eq!(rt; ended.status, Status::Done);
-    let mut most = 0;
-    for moment in entry..last_moment(&ended.disk)? + 1 {
-        for kind in KINDS {
-            let again = found(
-                alloc,
-                &ended.disk,
-                moment,
-                kind,
-                b"SELECT * FROM t WHERE k = 7",
-            )?;
-            assert_eq!(rt; again.status, Status::Done, "{moment}");
-            let Some(there) = transactions(again.out.taken()) else {
-                return Err("another text".into());
-            };
-            assert!(rt;
-                there >= promised(ended.journal.as_slice(), moment),
-                "{moment}"
-            );
-            most = most.max(there);
-        }
+    assert_eq!(rt; most_left(alloc, &ended, entry)?, 2);
+    Ok(())
+}
+
+// Writes the identity page's first bytes again, without a sync.
+fn write_again(disk: &mut MemDisk) -> Result<(), Fail> {
+    if disk.pages(0) == 0 {
+        return Err("no root".into());
     }
-    assert_eq!(rt; most, 2);
+    let mut bytes = [0; 8];
+    if disk.read(0, 0, &mut bytes).is_err() || disk.write_at(0, 0, &bytes).is_err() {
+        return Err("the disk failed".into());
+    }
+    Ok(())
+}
+
+#[test]
+fn something_pending_at_entry(rt: HostRuntime) -> Result<(), Fail> {
+    let alloc = rt.alloc();
+    let mut disk = formatted(alloc, 4)?;
+    write_again(&mut disk)?;
+    let entry = last_moment(&disk)?;
+    let ended = run(alloc, disk, FIRST)?;
+    assert_eq!(rt; ended.status, Status::Done);
+    let torn = found(alloc, &ended.disk, entry, Leave::Torn(165), b"BEGIN WORK")?;
+    assert_ne!(rt; torn.status, Status::Done, "the write may be torn");
+    assert_eq!(rt; most_left(alloc, &ended, entry + 1)?, 2);
     Ok(())
 }
 

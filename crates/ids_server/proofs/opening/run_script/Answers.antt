@@ -1,8 +1,9 @@
-use Rattle.std.proofs.Common.{◌∙◌, sym, subst}
+use Rattle.std.proofs.Common.{◌≡◌, ◌∙◌, sym, ap, subst}
 use Rattle.std.specs.FinMap as map
 use Rattle.ids_model.specs.Tables.{Tables}
+use Rattle.fast_recovery.specs.declared.fault.OpenFault.TheVariants.{Disk}
 use Rattle.ids_engine.specs.declared.store.Store.{Store}
-use Rattle.ids_server.specs.Serving.{HasRun}
+use Rattle.ids_server.specs.Serving.{HasRun, has_opened}
 use Rattle.ids_server.proofs.Opened.{runs_nothing, runs_shown, keeps_at_start, runs_over}
 use Rattle.ids_server.proofs.opening.run_script.Goals as goal
 
@@ -10,8 +11,9 @@ pub returns-in-Err-clause-ran : goal.returns-in-Err-clause-ran
 returns-in-Err-clause-ran g c = λ bytes is grammar.
     let none : Tables = map.empty in (
       none,
-      runs_nothing g.D.Disk.tells g.D.Disk.now g.D.Disk.image g.D.Disk.can_leave g.D.Disk.left_at c.served_at_start.ensures bytes none _ _ _ _ _ c.nothing.ensures.journal c.nothing.ensures.given
-          (λ done. c.status_of.ensures.not_done (sym c.nothing.ensures.status ∙ done)) (λ _. grammar) c.in-Err.ensures.any_moment,
+      runs_nothing g.D.Disk.tells g.D.Disk.now g.D.Disk.image g.D.Disk.can_leave g.D.Disk.left_at c.served_at_start.ensures bytes none _ _ _ _ _ _ c.nothing.ensures.journal c.nothing.ensures.given
+          (λ done. c.status_of.ensures.not_done (sym c.nothing.ensures.status ∙ done)) (λ _. grammar)
+          (λ sound same. sound (c.nothing.ensures.status ∙ c.status_of.ensures.disk.1 (let fault : c.in-Err.fault ≡ Disk = cc in fault))) c.in-Err.ensures.any_moment,
     )
 
 pub returns-clause-ran : goal.returns-clause-ran
@@ -31,3 +33,7 @@ returns-clause-ran g c = λ bytes is grammar.
           (λ since found keeps. c.run-status.ensures.survives since found (start since found c.from_disk.new.disk keeps))
           (λ done since found keeps. c.run-status.ensures.at_end done since found (start since found c.from_disk.new.disk keeps))),
     )
+
+pub returns-in-Err-clause-was_formatted : goal.returns-in-Err-clause-was_formatted
+returns-in-Err-clause-was_formatted g c = λ opened told.
+    c.status_of.ensures.was_formatted (g.D.Disk.image c.args.disk.now) (c.in-Err.ensures.was_formatted told) (sym (ap has_opened c.nothing.ensures.status) ∙ opened)
