@@ -1,8 +1,8 @@
 -- Why a disk is not opened, by what was read.
-use Rattle.std.proofs.Common.{◌≡◌, inl, ℕ, List, ◌++◌, Option, None, sym, subst}
+use Rattle.std.proofs.Common.{◌≡◌, inl, inr, ℕ, List, ◌++◌, Option, None, ap, sym, ◌∙◌, subst}
 use Rattle.log_records.specs.Entries as says
 use Rattle.log_buffer.specs.Kept.{tail_entries}
-use Rattle.fast_recovery.specs.Order.{open_in}
+use Rattle.fast_recovery.specs.Order.{open_in, closing}
 use Rattle.ids_base.specs.declared.status.Place.TheVariants.{Identity, Checkpoint, Entry, DataPage, Block, Record, Row}
 use Rattle.ids_outside.specs.Images.{Image}
 use Rattle.gate_blocks.specs.declared.region.Region.{Region}
@@ -10,10 +10,14 @@ use Rattle.chunk_map.specs.declared.layout.Layout.{Layout}
 use Rattle.chunk_map.specs.declared.fault.MapFault.{MapFault}
 use Rattle.chunk_map.specs.declared.fault.MapFault.TheVariants as map
 use Rattle.chunk_map.specs.Formatted.{HasLayout, IdentityFault, NewestFault, NamesIdentity}
-use Rattle.fast_recovery.specs.Images.{log_region}
+use Rattle.ids_model.specs.Recovered.{State, nothing, run}
+use Rattle.fast_recovery.specs.BrokenRows.{IsBrokenRow}
+use Rattle.fast_recovery.specs.Images.{log_region, log_in}
 use Rattle.fast_recovery.specs.Faults.{fault_of}
-use Rattle.fast_recovery.specs.LogRead.{IsDamagedAt, IsLogFull, OpenCause, LogFault, RecordsFault}
+use Rattle.fast_recovery.specs.LogRead.{IsAfter, IsDamagedAt, IsLogFull, OpenCause, LogFault, RecordsFault}
+use Rattle.fast_recovery.specs.RowDamaged.{RowsFault}
 use Rattle.fast_recovery.specs.Opening.{ClosingFault}
+use Rattle.fast_recovery.specs.declared.past.Past.{Past}
 use Rattle.fast_recovery.specs.declared.fault.OpenFault.{OpenFault}
 use Rattle.fast_recovery.specs.declared.fault.OpenFault.TheVariants.{Disk, Memory, NotFormatted, Damaged, LogFull}
 
@@ -64,3 +68,15 @@ module _ (x : Image) where
   closing-cause full NotFormatted f h = absurd h
   closing-cause full (Damaged place) f h = absurd h
   closing-cause full LogFull f h = f h
+
+  -- the row that is named is broken
+  pub rows-cause : (l : Layout) (p : Past) (e : OpenFault) → HasLayout l x → IsAfter (log_in l x) p → run nothing (log_in l x ++ closing p.open_tx) ≡ run (run nothing (log_in l x)) (closing p.open_tx)
+      → RowsFault (run p.replay (closing p.open_tx)) e → OpenCause x e
+  rows-cause l p e has after joins (inl wants) = subst (OpenCause x) (sym wants) tt
+  rows-cause l p e has after joins (inr (row, is, broken)) = subst (OpenCause x) (sym is) (record {
+    layout = l;
+    has = has;
+    last = p.open_tx;
+    in_order = after.order;
+    broken = subst (λ (s : State). IsBrokenRow s.own s.slots row) (ap (λ (s : State). run s (closing p.open_tx)) after.replay ∙ sym joins) broken;
+  })

@@ -14,8 +14,16 @@ use Rattle.chunk_map.specs.declared.layout.Layout.{Layout}
 use Rattle.chunk_map.specs.Layouts.{IsLayout, HasPages}
 use Rattle.log_buffer.specs.Buffers.{Buffer, empty_at, waiting}
 use Rattle.log_buffer.specs.Kept.{Flushed, HasLog, HoldsFlushed, KeepsLog, Outlives, tail_entries}
-use Rattle.fast_recovery.specs.Opening.{SameLog, files_from}
-use Rattle.fast_recovery.specs.Images.{log_region, log_in}
+use Rattle.fast_recovery.specs.Opening.{SameLog, KeepsTables, files_from}
+use Rattle.fast_recovery.specs.Images.{Recovers, log_region, log_in}
+
+-- a stop within reads leaves the tables
+pub same-tables : {D : Type 0} (now : D → ℕ) (can_leave : D → Image → Type 0) (left_at : D → ℕ → Image → Type 0) (old mid : D) (base : Image)
+    → Leaves now can_leave left_at old mid (λ x y. y ≡ x) → Only base (can_leave old) → now mid < last_count → (m : ℕ) (c : Image) → now old ≤ m → left_at mid m c → KeepsTables base c
+same-tables now can_leave left_at old mid base reads only room m c from left =
+    let was = reads.during room m from c left in
+    let same : c ≡ base = was.2 ∙ only was.0 was.1 in
+    λ T recovers. subst (λ (x : Image). Recovers x T) (sym same) recovers
 
 -- the log was read of an image that alone can be left
 pub is-read : {D : Type 0} (size : D → ℕ → ℕ) (image : D → Image) (can_leave : D → Image → Type 0) (tells : Type 0) (l : Layout) (next : ℕ) (disk : D)

@@ -21,3 +21,5 @@ pub mod SeenTables
 pub mod Keeping
 pub mod Causes
 pub mod Results
+pub mod Broken
+pub mod PagesOwned

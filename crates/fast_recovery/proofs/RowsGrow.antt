@@ -6,7 +6,7 @@ use Rattle.ids_model.specs.declared.effect.Effect.{Effect}
 use Rattle.ids_model.specs.declared.effect.Effect.TheVariants.{Change}
 use Rattle.ids_model.specs.Tables.{Shape, Name, Tables, apply}
 use Rattle.ids_model.specs.Slots.{Bytes, Own, Slots, own_at, slot_at, set_slot}
-use Rattle.ids_model.specs.Stands.{catalogue, owner_of, Holds, IsCatalogued}
+use Rattle.ids_model.specs.Stands.{catalogue, owner_of, Holds, CatalogueRow, IsCatalogued}
 use Rattle.ids_model.specs.Logged.{StandsWhole}
 use Rattle.ids_model.proofs.Holding.{none_some, some_same, catalogue_moves, one_owner, one_bytes}
 use Rattle.ids_model.proofs.RowChanges.{row_changes}
@@ -39,7 +39,7 @@ module _ (own : Own) (slots : Slots) (rest : List (ℕ × Bytes)) (T : Tables) (
 
   module _ (o : ℕ × ℕ) (owned : own_at own (page_of slot) ≡ Some o) (other : o.0 ≡ 1 → ⊥) where
     -- the slot of the row is still empty
-    pub unread : slot_at P slot ≡ None
+    unread : slot_at P slot ≡ None
     unread = inside (slot_at P slot) refl
       where
         at : (b : Bytes) → (own_at own (page_of slot) ≡ Some catalogue) ⊎ IsRead ((slot, bytes) ∷ rest) slot → ⊥
@@ -51,11 +51,11 @@ module _ (own : Own) (slots : Slots) (rest : List (ℕ × Bytes)) (T : Tables) (
         inside (Some b) is = absurd (at b (r.fresh slot b is))
 
     -- what is in the catalogue is in the part of it that was read
-    pub to_read : (i : ℕ) (m : Name) (s : Shape) → IsCatalogued own slots i m s → IsCatalogued own P i m s
-    to_read i m s d = record {
-      slot = d.slot;
-      row = catalogue_moves own own slots P d.slot i m s (λ b h. record { owned = h.owned; stored = r.first d.slot b h }) d.row;
-    }
+    pub row_read : (q i : ℕ) (m : Name) (s : Shape) → CatalogueRow own slots q i m s → CatalogueRow own P q i m s
+    row_read q i m s = catalogue_moves own own slots P q i m s (λ b h. record { owned = h.owned; stored = r.first q b h })
+
+    to_read : (i : ℕ) (m : Name) (s : Shape) → IsCatalogued own slots i m s → IsCatalogued own P i m s
+    to_read i m s d = record { slot = d.slot; row = row_read d.slot i m s d.row }
 
     module _ (names : Names) (are : AreNames own slots names) (n : Name) (named : map.get names o.0 ≡ Some n) where
       -- the table of the row

@@ -5,9 +5,12 @@ pub mod Keys
 pub mod Images
 pub mod Order
 pub mod Found
+pub mod Pages
+pub mod BrokenRows
 pub mod Reading
 pub mod CatalogueRead
 pub mod RowsRead
+pub mod RowDamaged
 pub mod LogRead
 pub mod Faults
 pub mod Opening

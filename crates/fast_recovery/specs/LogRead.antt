@@ -17,6 +17,7 @@ use Rattle.log_buffer.specs.Kept.{tail_entries}
 use Rattle.ids_model.specs.Recovered.{SlotChange, nothing, run, AreOf}
 use Rattle.fast_recovery.specs.Images.{first_checkpoint, log_region, log_in}
 use Rattle.fast_recovery.specs.Order.{open_in}
+use Rattle.fast_recovery.specs.RowDamaged.{HasRowDamaged}
 use Rattle.fast_recovery.specs.declared.past.Past.{Past}
 use Rattle.fast_recovery.specs.declared.fault.OpenFault.{OpenFault}
 use Rattle.fast_recovery.specs.declared.fault.OpenFault.TheVariants.{Disk, Memory, NotFormatted, Damaged, LogFull}
@@ -93,7 +94,7 @@ IsDamagedAt x (EntryAt k) = ⊥
 IsDamagedAt x (DataPage k) = ⊥
 IsDamagedAt x (Block b) = ⊥
 IsDamagedAt x (Record pos) = IsOutOfOrder x
-IsDamagedAt x (Row n) = ⊥
+IsDamagedAt x (Row n) = HasRowDamaged x n
 
 -- a transaction is open in the log, and each block of its files is taken
 pub record IsLogFull (x : Image) : Type 0 where

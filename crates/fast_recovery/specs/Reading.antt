@@ -1,5 +1,5 @@
 -- Maps that are read in the order of their keys, and the names of tables by number.
-use Rattle.std.specs.Prelude.{◌≡◌, ℕ, ◌==◌, Bool, true, if◌then◌else◌, List, [], ◌∷◌, Option, Some, None, option_and_then}
+use Rattle.std.specs.Prelude.{◌≡◌, ◌<◌, ℕ, ◌==◌, Bool, true, if◌then◌else◌, List, [], ◌∷◌, Option, Some, None, option_and_then}
 use Rattle.std.specs.FinMap as map
 use Rattle.std.specs.FinMap.{find}
 use Rattle.std.specs.Ordering.{nat_cmp}
@@ -13,14 +13,18 @@ abbrev pub Names : Type 0
 Names = map.FinMap nat_cmp Name
 
 module _ {V : Type 0} where
-  -- entries of a map, each with a key of its own
-  abbrev pub AreEntries : map.FinMap nat_cmp V → List (ℕ × V) → Type 0
-  AreEntries m [] = Unit {0}
-  AreEntries m (e ∷ es) = (map.get m e.0 ≡ Some e.1) × (find nat_cmp e.0 es ≡ None) × AreEntries m es
-
   -- a key is read where it is not among the rest
   abbrev pub IsRead : List (ℕ × V) → ℕ → Type 0
   IsRead rest key = find nat_cmp key rest ≡ None
+
+  -- the keys of a map that are read are less than a key
+  abbrev pub AreReadBefore : map.FinMap nat_cmp V → List (ℕ × V) → ℕ → Type 0
+  AreReadBefore m rest key = (q : ℕ) (v : V) → map.get m q ≡ Some v → IsRead rest q → q < key
+
+  -- entries of a map, each with a key of its own, in the order of the keys and behind those that are read
+  abbrev pub AreEntries : map.FinMap nat_cmp V → List (ℕ × V) → Type 0
+  AreEntries m [] = Unit {0}
+  AreEntries m (e ∷ es) = (map.get m e.0 ≡ Some e.1) × IsRead es e.0 × AreEntries m es × AreReadBefore m (e ∷ es) e.0
 
 -- exactly the numbers of the catalogue have names, and those that the catalogue says
 pub record AreNames (own : Own) (slots : Slots) (names : Names) : Type 0 where

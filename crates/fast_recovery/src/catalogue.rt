@@ -1,11 +1,13 @@
 //! The rows of the catalogue, and what they allow.
-ghost use Rattle.std.specs.Prelude.{◌≡◌, ◌∷◌, [], List, ℕ, true, false, max, Some, None, is_some, IfOk, IfErr, OnOk};
+ghost use Rattle.std.specs.Prelude.{◌≡◌, ◌<◌, ◌^◌, ◌∷◌, [], List, ℕ, true, false, max, Some, None, is_some, IfOk, IfErr, OnOk};
 ghost use Rattle.std.specs.FinMap as map;
+ghost use Rattle.ids_base.specs.RowIds.{row_number};
 ghost use Rattle.ids_model.specs.declared.effect.Effect.TheVariants.{NewTable};
 ghost use Rattle.ids_model.specs.Rows.{is_shape};
 ghost use Rattle.ids_model.specs.Slots.{Slots, own_at};
-ghost use Rattle.ids_model.specs.Stands.{IsWhole};
 ghost use Rattle.ids_model.specs.Tables.{shape_at, apply};
+ghost use Rattle.fast_recovery.specs.BrokenRows.{IsBrokenRow};
+ghost use Rattle.fast_recovery.specs.Pages.{ArePages};
 ghost use Rattle.fast_recovery.specs.Reading.{has_length, may_own, HaveGoodShapes};
 ghost use Rattle.fast_recovery.specs.CatalogueRead.{CatalogueRead};
 
@@ -51,7 +53,7 @@ impl Catalogue {
         slots: &FilledSlots,
     ) -> Result<Catalogue, TablesFault>
         ensures ok { IfOk result (λ c. CatalogueRead owners.now slots.now [] c) }
-        ensures damaged { IfErr result (λ e. (row : ℕ) → e ≡ TablesFault.Damaged row → ¬ IsWhole owners.now slots.now) }
+        ensures damaged { IfErr result (λ e. (row : ℕ) → e ≡ TablesFault.Damaged row → IsBrokenRow owners.now slots.now row) }
     {
         let mut catalogue = Catalogue::new(alloc);
         for (slot, row) in slots.iter() {
@@ -69,7 +71,7 @@ impl Catalogue {
         bytes: &[u8],
     ) -> Result<(), TablesFault>
         ensures ok { OnOk result ((slots : Slots) (rest : List (ℕ × List ℕ)) → CatalogueRead owners.now slots ((slot, bytes.now) ∷ rest) self.old → CatalogueRead owners.now slots rest self.new) }
-        ensures damaged { IfErr result (λ e. (row : ℕ) → e ≡ TablesFault.Damaged row → (slots : Slots) (rest : List (ℕ × List ℕ)) → CatalogueRead owners.now slots ((slot, bytes.now) ∷ rest) self.old → ¬ IsWhole owners.now slots) }
+        ensures damaged { IfErr result (λ e. (row : ℕ) → e ≡ TablesFault.Damaged row → (slots : Slots) (rest : List (ℕ × List ℕ)) → CatalogueRead owners.now slots ((slot, bytes.now) ∷ rest) self.old → IsBrokenRow owners.now slots row) }
     {
         let Some(owner) = owners.get(slot / 256) else {
             return Err(TablesFault::Damaged(slot));
@@ -117,11 +119,11 @@ impl Catalogue {
         self.tables.apply(&[effect])
     }
 
-    /// Refuses a page that has not the row length of its owner. Linear in the pages, with logarithmic look-ups.
+    /// Refuses a page that has not the row length of its owner, by its slot 1. Linear in the pages, with logarithmic look-ups.
     pub(crate) fn check_pages(&self, owners: &Owners) -> Result<(), TablesFault>
         requires { HaveGoodShapes self.now.tables }
         ensures ok { OnOk result ((page : ℕ) (owner : ℕ × ℕ) → own_at owners.now page ≡ Some owner → may_own self.now.tables self.now.names owner ≡ true) }
-        ensures damaged { IfErr result (λ e. (row : ℕ) → e ≡ TablesFault.Damaged row → (page : ℕ) × (owner : ℕ × ℕ) × (own_at owners.now page ≡ Some owner) × (may_own self.now.tables self.now.names owner ≡ false)) }
+        ensures damaged { IfErr result (λ e. (row : ℕ) → e ≡ TablesFault.Damaged row → (page : ℕ) × (owner : ℕ × ℕ) × (own_at owners.now page ≡ Some owner) × (may_own self.now.tables self.now.names owner ≡ false) × (row ≡ row_number page 1)) }
     {
         for (page, owner) in owners.iter() {
             if !self.allows(*owner) {
@@ -157,11 +159,10 @@ impl Catalogue {
     }
 }
 
-// The row id of the first slot of a page, or the greatest one.
-fn first_row(page: u32) -> u32 {
-    if page < 0x100_0000 {
-        page * 256 + 1
-    } else {
-        u32::MAX
-    }
+// The row id of slot 1 of a page.
+fn first_row(page: u32) -> u32
+    requires { page < 2 ^ 24 }
+    ensures { result ≡ row_number page 1 }
+{
+    page * 256 + 1
 }

@@ -9,6 +9,7 @@
 mod catalogue;
 mod fault;
 pub mod keys;
+pub mod laws;
 mod names;
 mod numbers;
 pub mod opening;

@@ -1,7 +1,8 @@
 //! The owners of pages.
-ghost use Rattle.std.specs.Prelude.{◌≡◌, ◌≤◌, ◌⊎◌, ℕ, OnOk};
+ghost use Rattle.std.specs.Prelude.{◌≡◌, ◌≤◌, ◌<◌, ◌^◌, ◌⊎◌, ℕ, OnOk};
 ghost use Rattle.std.specs.FinMap.{empty, entries};
 ghost use Rattle.ids_model.specs.Slots.{own_at, set_own};
+ghost use Rattle.fast_recovery.specs.Pages.{ArePages};
 
 use crate::owner::Owner;
 use ids_base::memory::Memory;
@@ -11,7 +12,7 @@ use std::collections::BTreeMap;
 use std::collections::btree_map::Iter;
 use std::marker::Model;
 
-/// The pages that have an owner. Contracts see the finite map from page to owner.
+/// The pages that have an owner; their numbers have 24 bits. Contracts see the finite map from page to owner.
 #[derive(Drop)]
 pub struct Owners {
     owners: BTreeMap<u32, Owner>,
@@ -27,6 +28,10 @@ impl Model for Owners {
     ghost coded = { coded_own };
 
     ghost view = { λ a. map.from_entries a.owners.entries };
+
+    ghost use Rattle.fast_recovery.specs.Pages.{ArePages};
+
+    ghost invariant = { λ a. ArePages (map.from_entries a.owners.entries) };
 }
 
 impl Owners {
@@ -48,6 +53,7 @@ impl Owners {
 
     /// Gives a page an owner, in logarithmic time.
     pub fn set(&mut self, page: u32, owner: Owner) -> Result<(), Memory>
+        requires { page < 2 ^ 24 }
         ensures { OnOk result (self.new ≡ set_own self.old page owner) }
     {
         self.owners.insert(page, owner)?;
@@ -56,7 +62,8 @@ impl Owners {
 
     /// All pages that have an owner, with the owner and by page.
     pub fn iter(&self) -> Iter<'_, u32, Owner>
-        ensures { result ≡ entries self.now }
+        ensures all { result ≡ entries self.now }
+        ensures pages { ArePages self.now }
     {
         self.owners.iter()
     }

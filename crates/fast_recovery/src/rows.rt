@@ -2,7 +2,7 @@
 ghost use Rattle.std.specs.Prelude.{◌≡◌, ◌∷◌, [], List, ℕ, IfOk, IfErr, OnOk, MatchOption};
 ghost use Rattle.std.specs.FinMap as map;
 ghost use Rattle.ids_model.specs.Slots.{Slots};
-ghost use Rattle.ids_model.specs.Stands.{IsWhole};
+ghost use Rattle.fast_recovery.specs.BrokenRows.{IsBrokenRow};
 ghost use Rattle.fast_recovery.specs.Reading.{AreNames};
 ghost use Rattle.fast_recovery.specs.RowsRead.{RowsRead, IsNewRow, HasNoNewRow};
 
@@ -26,7 +26,7 @@ pub(crate) fn put_rows(
     tables: &mut PlainTables,
 ) -> Result<(), TablesFault>
     ensures ok { OnOk result (AreNames owners.now slots.now names.now → RowsRead owners.now slots.now (map.entries slots.now) tables.old → RowsRead owners.now slots.now [] tables.new) }
-    ensures damaged { IfErr result (λ e. (row : ℕ) → e ≡ TablesFault.Damaged row → AreNames owners.now slots.now names.now → RowsRead owners.now slots.now (map.entries slots.now) tables.old → ¬ IsWhole owners.now slots.now) }
+    ensures damaged { IfErr result (λ e. (row : ℕ) → e ≡ TablesFault.Damaged row → AreNames owners.now slots.now names.now → RowsRead owners.now slots.now (map.entries slots.now) tables.old → IsBrokenRow owners.now slots.now row) }
 {
     for (slot, row) in slots.iter() {
         put_row(alloc, owners, names, tables, *slot, row.bytes())?;
@@ -44,7 +44,7 @@ fn put_row(
     bytes: &[u8],
 ) -> Result<(), TablesFault>
     ensures ok { OnOk result ((slots : Slots) (rest : List (ℕ × List ℕ)) → AreNames owners.now slots names.now → RowsRead owners.now slots ((slot, bytes.now) ∷ rest) tables.old → RowsRead owners.now slots rest tables.new) }
-    ensures damaged { IfErr result (λ e. (row : ℕ) → e ≡ TablesFault.Damaged row → (slots : Slots) (rest : List (ℕ × List ℕ)) → AreNames owners.now slots names.now → RowsRead owners.now slots ((slot, bytes.now) ∷ rest) tables.old → ¬ IsWhole owners.now slots) }
+    ensures damaged { IfErr result (λ e. (row : ℕ) → e ≡ TablesFault.Damaged row → (slots : Slots) (rest : List (ℕ × List ℕ)) → AreNames owners.now slots names.now → RowsRead owners.now slots ((slot, bytes.now) ∷ rest) tables.old → IsBrokenRow owners.now slots row) }
 {
     let Some(owner) = owners.get(slot / 256) else {
         return Err(TablesFault::Damaged(slot));

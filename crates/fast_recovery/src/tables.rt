@@ -1,7 +1,7 @@
 //! Which tables pages and rows stand for.
 ghost use Rattle.std.specs.Prelude.{◌≡◌, ℕ, IfOk, IfErr};
-ghost use Rattle.ids_model.specs.Stands.{IsWhole};
 ghost use Rattle.ids_model.specs.Logged.{StandsWhole};
+ghost use Rattle.fast_recovery.specs.BrokenRows.{IsBrokenRow};
 ghost use Rattle.fast_recovery.specs.Found.{AreNumbered, IsGreatest};
 
 use crate::catalogue::Catalogue;
@@ -25,7 +25,7 @@ pub struct Found {
 pub enum TablesFault {
     /// Memory was wanting.
     Memory,
-    /// Pages and rows are no well formed ones; a row id where this shows.
+    /// Pages and rows are no well formed ones; the row id that breaks a rule of them.
     Damaged(u32),
 }
 
@@ -42,14 +42,15 @@ impl From<Memory> for TablesFault {
 
 impl Replay {
     /// The tables that pages and rows stand for, their numbers, and the greatest number of a table that owns a page or is in
-    /// the catalogue, 99 where there is none. `Damaged` comes where pages and rows are no well formed ones: with the row id of
-    /// a row that is not, or of slot 1 of a page that has not the row length of its owner. Three passes over pages and rows,
-    /// with logarithmic look-ups; takes memory for the tables.
+    /// the catalogue, 99 where there is none. `Damaged` comes where pages and rows are no well formed ones, with the row id that
+    /// breaks a rule of these: of a row that its table or the catalogue cannot have, as one with the key of a lesser row id, or of
+    /// slot 1 of a page that has not the row length of its owner. Three passes over pages and rows, with logarithmic look-ups;
+    /// takes memory for the tables.
     pub fn tables(&self) -> Result<Found, TablesFault>
         ensures stands { IfOk result (λ f. StandsWhole self.now.own self.now.slots f.tables) }
         ensures numbers { IfOk result (λ f. AreNumbered self.now.own self.now.slots f.tables f.numbers) }
         ensures greatest { IfOk result (λ f. IsGreatest self.now.own self.now.slots f.greatest) }
-        ensures damaged { IfErr result (λ e. (row : ℕ) → e ≡ TablesFault.Damaged row → ¬ IsWhole self.now.own self.now.slots) }
+        ensures damaged { IfErr result (λ e. (row : ℕ) → e ≡ TablesFault.Damaged row → IsBrokenRow self.now.own self.now.slots row) }
     {
         let alloc = self.alloc();
         let owners = self.owners();

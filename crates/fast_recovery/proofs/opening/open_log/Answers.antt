@@ -10,11 +10,12 @@ use Rattle.ids_model.specs.Recovered.{State, nothing, run}
 use Rattle.fast_recovery.specs.Images.{log_region, log_in}
 use Rattle.fast_recovery.specs.Order.{open_in, closing}
 use Rattle.fast_recovery.specs.LogRead.{AreUpTo, OpenCause}
+use Rattle.fast_recovery.specs.RowDamaged.{RowsFault}
 use Rattle.fast_recovery.specs.Opening.{files_from}
 use Rattle.fast_recovery.proofs.BlocksRead.{length-held}
-use Rattle.fast_recovery.proofs.Causes.{closing-cause}
+use Rattle.fast_recovery.proofs.Causes.{closing-cause, rows-cause}
 use Rattle.fast_recovery.proofs.Results.{err-goes-up}
-use Rattle.fast_recovery.proofs.Keeping.{same-since, keeps-cleared, keeps-from-now}
+use Rattle.fast_recovery.proofs.Keeping.{same-tables, same-since, keeps-cleared, keeps-from-now}
 use Rattle.fast_recovery.proofs.EmptyBase.{Laws}
 use Rattle.fast_recovery.proofs.SeenTables.{keeps-tables}
 use Rattle.fast_recovery.proofs.opening.open_log.Goals as goal
@@ -23,6 +24,27 @@ pub start_log-requires-clause-held : goal.start_log-requires-clause-held
 start_log-requires-clause-held g c = λ tells b from below.
     let was = (c.in_ok-layout.ensures.found tells).read.held b from below in
     (was.0, ap (λ (y : Image). body_at (log_region c.in_ok-layout.layout) b y) c.read_disk.ensures.same ∙ was.1)
+
+pub returns-in_err-note_end-clause-any_moment : goal.returns-in_err-note_end-clause-any_moment
+returns-in_err-note_end-clause-any_moment g c = λ only room m y from left.
+    let d = g.D.Disk in
+    same-tables d.now d.can_leave d.left_at c.args.disk.now c.read_disk.new.disk (d.image c.args.disk.now) c.read_disk.ensures.any_moment only room m y from left
+
+pub returns-in_err-found-clause-any_moment : goal.returns-in_err-found-clause-any_moment
+returns-in_err-found-clause-any_moment g c = λ only room m y from left.
+    let d = g.D.Disk in
+    same-tables d.now d.can_leave d.left_at c.args.disk.now c.read_disk.new.disk (d.image c.args.disk.now) c.read_disk.ensures.any_moment only room m y from left
+
+pub returns-in_err-found-clause-fault : goal.returns-in_err-found-clause-fault
+returns-in_err-found-clause-fault g c =
+    let base = g.D.Disk.image c.args.disk.now in let l = c.in_ok-layout.layout in let p = c.in_ok-layout.past in
+    err-goes-up c.from_residual-in_err-found.result _ (λ e. g.D.Disk.tells → OpenCause base e) c.from_residual-in_err-found.ensures.1 (λ e is tells.
+    let same : e ≡ c.in_err-found.field-0.0 = is in
+    let found = c.in_ok-layout.ensures.found tells in
+    subst (λ k. OpenCause base k) (sym same)
+    (rows-cause base l p c.in_err-found.field-0.0 found.layout found.read.after
+    (c.runs_join.ensures nothing (log_in l base) (closing p.open_tx))
+    (subst (λ (s : State). RowsFault s c.in_err-found.field-0.0) c.in_ok-note_end.ensures c.in_err-found.ensures.fault)))
 
 pub returns-in_err-files-clause-any_moment : goal.returns-in_err-files-clause-any_moment
 returns-in_err-files-clause-any_moment g c = λ only room m y from left.
@@ -75,7 +97,7 @@ returns-clause-opened g c = λ tells.
       newest = found.newest;
       last = p.open_tx;
       in_order = ap (λ (k : Layout). open_in None (log_in k base)) close.layout ∙ after.order;
-      replay = close.replay ∙ ap (λ (s : State). run s (closing p.open_tx)) after.replay ∙ sym (c.runs_join.ensures nothing (log_in l base) (closing p.open_tx))
+      replay = close.replay ∙ c.in_ok-note_end.ensures ∙ ap (λ (s : State). run s (closing p.open_tx)) after.replay ∙ sym (c.runs_join.ensures nothing (log_in l base) (closing p.open_tx))
           ∙ ap (λ (k : Layout). run nothing (log_in k base ++ closing p.open_tx)) (sym close.layout);
       greatest = subst (λ (n : ℕ). AreUpTo n (log_in c.close_log.new.opened.layout base)) (sym close.last_tx)
           (subst (λ (k : Layout). AreUpTo p.last_tx (log_in k base)) (sym close.layout) after.greatest);

@@ -15,7 +15,7 @@ returns-clause-sound g c =
     let d = g.D.Disk in
     let o = c.in_ok-opened.opened in
     let is = c.in_ok-opened.ensures.in_order in
-    let found = c.in_ok-found.found in
+    let found = o.found in
     let disk = c.open_log.new.disk in
     let x : Image = d.image c.args.disk.now in
     let store : Store = record {
@@ -31,7 +31,7 @@ returns-clause-sound g c =
       current = None;
       undo = c.new.result;
     } in
-    sound_opening store refl c.new.ensures is.layout (opened_log o is c.next_is_within.ensures) is.quiet c.in_ok-found.ensures.kept
+    sound_opening store refl c.new.ensures is.layout (opened_log o is c.next_is_within.ensures) is.quiet is.found
     d.size d.now d.image d.can_leave d.left_at disk d.tells x is.buffer
     (λ y can. g.met.D.Disk.left_tells disk (d.now disk) y (g.met.D.Disk.counts_now disk y can)) (g.met.D.Disk.image_left disk)
     (λ before held. c.openings_keep.ensures x before o.files disk c.in_ok-opened.ensures.ready held)
@@ -45,7 +45,7 @@ returns-clause-kept g c = λ T told recovers.
     let o = c.in_ok-opened.opened in
     let is = c.in_ok-opened.ensures.in_order in
     let has = c.in_ok-opened.ensures.opened told in
-    let found = c.in_ok-found.found in
+    let found = o.found in
     let disk = c.open_log.new.disk in
     let x : Image = d.image c.args.disk.now in
     let store : Store = record {
@@ -62,7 +62,7 @@ returns-clause-kept g c = λ T told recovers.
       undo = c.new.result;
     } in
     let log = opened_log o is c.next_is_within.ensures in
-    let memory = c.in_ok-found.ensures.kept in
+    let memory = is.found in
     let layout : recovers.layout ≡ o.layout = c.one_of_each.ensures.layout recovers.layout o.layout x recovers.base.layout has.layout in
     let base : HasEmptyBase o.layout x = subst (λ (l : Layout). HasEmptyBase l x) layout recovers.base in
     let was : IsRecovered (log_in o.layout x) T = subst (λ (l : Layout). IsRecovered (log_in l x) T) layout recovers.tables in
