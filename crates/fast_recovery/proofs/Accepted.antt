@@ -1,5 +1,5 @@
 -- An image from which tables are recovered is formatted, and nothing of it is damaged.
-use Rattle.std.proofs.Common.{◌≡◌, inl, inr, ℕ, true, false, ◌&&◌, List, [], ◌∷◌, ◌++◌, take, codes, Option, Some, None, refl, sym, ◌∙◌, ap, append_assoc}
+use Rattle.std.proofs.Common.{◌≡◌, inl, inr, ℕ, true, false, ◌&&◌, List, [], ◌∷◌, ◌++◌, take, codes, Option, Some, None, refl, sym, ◌∙◌, ap, subst, append_assoc}
 use Rattle.std.specs.Prelude.{is_some}
 use Rattle.std.specs.FinMap.{empty}
 use Rattle.std.proofs.lemmas.Bool.{false≢true}
@@ -18,10 +18,12 @@ use Rattle.log_records.proofs.Numbers.{both_true}
 use Rattle.log_buffer.specs.Kept.{entries_in}
 use Rattle.ids_model.specs.Tables.{Tables}
 use Rattle.ids_model.specs.Slots.{Own, own_all}
-use Rattle.ids_model.specs.Recovered.{owns}
-use Rattle.ids_model.specs.RecoveryLaws.{RunsJoin}
+use Rattle.ids_model.specs.Recovered.{State, nothing, run, owns}
+use Rattle.ids_model.specs.Logged.{IsRecovered}
+use Rattle.ids_model.specs.RecoveryLaws.{RunsJoin, RollbacksAreSeen}
 use Rattle.fast_recovery.specs.Images.{first_checkpoint, log_region, log_in, page_count, Recovers}
-use Rattle.fast_recovery.specs.Order.{open_by, open_in}
+use Rattle.fast_recovery.specs.Order.{open_by, open_in, closing}
+use Rattle.fast_recovery.specs.RowDamaged.{HasRowDamaged}
 use Rattle.fast_recovery.specs.InPlace.{in_place, all_in_place, is_taken}
 use Rattle.fast_recovery.specs.LogRead.{IsFirstDamagedRecord, IsRecordDamaged, OpenCause}
 use Rattle.fast_recovery.specs.Opening.{IsWant, ClosingFault, IsRefusal}
@@ -29,6 +31,8 @@ use Rattle.fast_recovery.specs.declared.fault.OpenFault.{OpenFault}
 use Rattle.fast_recovery.specs.declared.fault.OpenFault.TheVariants.{Disk, Memory, NotFormatted, Damaged, LogFull}
 use Rattle.fast_recovery.proofs.Ordered.{open_in-none}
 use Rattle.fast_recovery.proofs.Placed.{places-split}
+use Rattle.fast_recovery.proofs.Broken.{not_broken}
+use Rattle.fast_recovery.proofs.SeenTables.{closed-whole}
 
 -- an image has one layout, and one newest checkpoint
 pub record OneOfEach : Type 0 where
@@ -78,7 +82,7 @@ log-split before rest body front behind e is =
     ∙ ap (λ (es : List Entry). entries_in before ++ es) (append_assoc front (e ∷ behind) (entries_in rest))
     ∙ sym (append_assoc (entries_in before) front (e ∷ (behind ++ entries_in rest)))
 
-module _ (join : RunsJoin) (one : OneOfEach) (x : Image) (T : Tables) where
+module _ (join : RunsJoin) (rolls : RollbacksAreSeen) (one : OneOfEach) (x : Image) (T : Tables) where
   -- no record is damaged
   records-stand : (pos : LogPos) → Recovers x T → IsRecordDamaged pos x → ⊥
   records-stand pos r why =
@@ -93,6 +97,14 @@ module _ (join : RunsJoin) (one : OneOfEach) (x : Image) (T : Tables) where
       ap (all_in_place (page_count l) empty) (sym log) ∙ ap (λ (k : Layout). all_in_place (page_count k) empty (log_in k x)) (sym same) ∙ r.in_place in
       false≢true (sym f.refused ∙ is-taken join (page_count l) before rest f.entry f.last r.last order places f.in_order)
 
+  -- no row is broken
+  rows-stand : (row : ℕ) → Recovers x T → HasRowDamaged x row → ⊥
+  rows-stand row r d =
+      let same : r.layout ≡ d.layout = one.layout r.layout d.layout x r.base.layout d.has in
+      let recovered : IsRecovered (log_in d.layout x) T = subst (λ (l : Layout). IsRecovered (log_in l x) T) same r.tables in
+      let s : State = run nothing (log_in d.layout x ++ closing d.last) in
+      not_broken s.own s.slots row (closed-whole join rolls (log_in d.layout x) d.last T d.in_order recovered) d.broken
+
   pub accepted : (e : OpenFault) → Recovers x T → OpenCause x e → IsRefusal e → ⊥
   accepted Disk r why refusal = refusal
   accepted Memory r why refusal = refusal
@@ -104,7 +116,7 @@ module _ (join : RunsJoin) (one : OneOfEach) (x : Image) (T : Tables) where
   accepted (Damaged (DataPage k)) r why refusal = why
   accepted (Damaged (Block b)) r why refusal = why
   accepted (Damaged (Record pos)) r why refusal = records-stand pos r why
-  accepted (Damaged (Row n)) r why refusal = why
+  accepted (Damaged (Row n)) r why refusal = rows-stand n r why
   accepted LogFull r why refusal = refusal
 
 -- a want is no refusal, nor is a fault of the ROLLBACK

@@ -1,7 +1,8 @@
 -- Why a disk is not opened, by what was read.
-use Rattle.std.proofs.Common.{inl, ℕ, List, sym, subst}
+use Rattle.std.proofs.Common.{◌≡◌, inl, inr, ℕ, List, ◌++◌, ap, sym, ◌∙◌, subst}
 use Rattle.log_records.specs.Entries as says
 use Rattle.ids_base.specs.declared.position.LogPos.{LogPos}
+use Rattle.fast_recovery.specs.Order.{closing}
 use Rattle.ids_base.specs.declared.status.Place.TheVariants.{Identity, Checkpoint, Entry, DataPage, Block, Record, Row}
 use Rattle.ids_outside.specs.Images.{Image}
 use Rattle.gate_blocks.specs.declared.region.Region.{Region}
@@ -9,9 +10,12 @@ use Rattle.chunk_map.specs.declared.layout.Layout.{Layout}
 use Rattle.chunk_map.specs.declared.fault.MapFault.{MapFault}
 use Rattle.chunk_map.specs.declared.fault.MapFault.TheVariants as map
 use Rattle.chunk_map.specs.Formatted.{HasLayout, IsFormatted, IdentityFault, NewestFault, NamesIdentity}
-use Rattle.fast_recovery.specs.Images.{log_region, page_count}
+use Rattle.ids_model.specs.Recovered.{State, nothing, run}
+use Rattle.fast_recovery.specs.BrokenRows.{IsBrokenRow}
+use Rattle.fast_recovery.specs.Images.{log_region, log_in, page_count}
 use Rattle.fast_recovery.specs.Faults.{fault_of}
-use Rattle.fast_recovery.specs.LogRead.{IsRefused, IsFirstDamagedRecord, IsDamagedAt, IsLogFull, OpenCause, LogFault, RecordsFault}
+use Rattle.fast_recovery.specs.LogRead.{IsAfter, IsRefused, IsFirstDamagedRecord, IsDamagedAt, IsLogFull, OpenCause, LogFault, RecordsFault}
+use Rattle.fast_recovery.specs.RowDamaged.{RowsFault}
 use Rattle.fast_recovery.specs.declared.past.Past.{Past}
 use Rattle.fast_recovery.specs.Opening.{ClosingFault, WasFormatted}
 use Rattle.fast_recovery.specs.declared.fault.OpenFault.{OpenFault}
@@ -78,3 +82,15 @@ module _ (x : Image) where
   is-formatted NotFormatted h = tt
   is-formatted (Damaged place) h = h
   is-formatted LogFull h = h
+
+  -- the row that is named is broken
+  pub rows-cause : (l : Layout) (p : Past) (e : OpenFault) → HasLayout l x → IsAfter (page_count l) (log_in l x) p → run nothing (log_in l x ++ closing p.open_tx) ≡ run (run nothing (log_in l x)) (closing p.open_tx)
+      → RowsFault (run p.replay (closing p.open_tx)) e → OpenCause x e
+  rows-cause l p e has after joins (inl wants) = subst (OpenCause x) (sym wants) tt
+  rows-cause l p e has after joins (inr (row, is, broken)) = subst (OpenCause x) (sym is) (record {
+    layout = l;
+    has = has;
+    last = p.open_tx;
+    in_order = after.order;
+    broken = subst (λ (s : State). IsBrokenRow s.own s.slots row) (ap (λ (s : State). run s (closing p.open_tx)) after.replay ∙ sym joins) broken;
+  })

@@ -14,6 +14,7 @@ pub mod BrokenRows
 pub mod Reading
 pub mod CatalogueRead
 pub mod RowsRead
+pub mod RowDamaged
 pub mod LogRead
 pub mod Faults
 pub mod Opening

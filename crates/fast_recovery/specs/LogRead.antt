@@ -21,6 +21,7 @@ use Rattle.ids_model.specs.Recovered.{SlotChange, nothing, run, owns, AreOf}
 use Rattle.fast_recovery.specs.Images.{first_checkpoint, log_region, log_in, page_count}
 use Rattle.fast_recovery.specs.Order.{open_in}
 use Rattle.fast_recovery.specs.InPlace.{all_in_place, is_taken}
+use Rattle.fast_recovery.specs.RowDamaged.{HasRowDamaged}
 use Rattle.fast_recovery.specs.declared.past.Past.{Past}
 use Rattle.fast_recovery.specs.declared.fault.OpenFault.{OpenFault}
 use Rattle.fast_recovery.specs.declared.fault.OpenFault.TheVariants.{Disk, Memory, NotFormatted, Damaged, LogFull}
@@ -132,7 +133,7 @@ IsDamagedAt x (EntryAt k) = ⊥
 IsDamagedAt x (DataPage k) = ⊥
 IsDamagedAt x (Block b) = ⊥
 IsDamagedAt x (Record pos) = IsRecordDamaged pos x
-IsDamagedAt x (Row n) = ⊥
+IsDamagedAt x (Row n) = HasRowDamaged x n
 
 -- a transaction is open in the log, and each block of its files is taken
 pub record IsLogFull (x : Image) : Type 0 where

@@ -13,6 +13,7 @@ use Rattle.log_buffer.specs.Buffers.{empty_at}
 use Rattle.log_buffer.specs.Kept.{Flushed, HasLog, KeepsLog, tail_entries}
 use Rattle.ids_model.specs.Tables.{Tables}
 use Rattle.ids_model.specs.Recovered.{nothing, run}
+use Rattle.fast_recovery.specs.Found.{IsKept}
 use Rattle.fast_recovery.specs.Images.{Recovers, first_checkpoint, log_region, log_in, page_count}
 use Rattle.fast_recovery.specs.Order.{open_in, closing}
 use Rattle.fast_recovery.specs.InPlace.{all_in_place}
@@ -46,7 +47,7 @@ pub record HasOpened (x : Image) (o : Opened) : Type 0 where
   pub replay : o.replay ≡ run nothing (log_in o.layout x ++ closing last)
   pub greatest : AreUpTo o.last_tx (log_in o.layout x)
 
--- the files of the layout from block 1 on, each place of which is retained or may be taken; a buffer without records; and nothing stands
+-- the files of the layout from block 1 on, each place of which is retained or may be taken; a buffer without records; nothing stands; and the tables that pages and rows stand for
 pub record IsOpened (o : Opened) : Type 0 where
   pub layout : IsLayout o.layout
   pub region : o.files.region ≡ log_region o.layout
@@ -55,6 +56,7 @@ pub record IsOpened (o : Opened) : Type 0 where
   pub limit : o.files.limit ≡ 1 + o.layout.logs * o.layout.log_size
   pub buffer : o.buffer ≡ empty_at o.files.next
   pub quiet : o.replay.standing ≡ []
+  pub found : IsKept o.replay o.found.tables o.found.numbers o.found.greatest
 
 -- the log of an image is kept, with a ROLLBACK of the open transaction behind it
 pub record KeepsOpened {D : Type 0} (size : D → ℕ → ℕ) (now : D → ℕ) (image : D → Image) (can_leave : D → Image → Type 0) (left_at : D → ℕ → Image → Type 0)

@@ -3,8 +3,11 @@
 //! 1. a sync, behind which a stop leaves what is read;
 //! 2. the identity and the newest checkpoint are read, which is to be the one that formatting writes;
 //! 3. the blocks of the log are read from number 1 on, each once, and their records are noted;
-//! 4. the places behind them are closed;
-//! 5. where a transaction is open, a ROLLBACK of it is noted, appended and flushed.
+//! 4. where a transaction is open, a ROLLBACK of it is noted; the tables that pages and rows then stand for are found;
+//! 5. the places behind the log are closed;
+//! 6. where a transaction is open, the ROLLBACK of it is appended and flushed.
+//!
+//! So a disk that is refused is as it was.
 ghost use Rattle.std.specs.Prelude.{◌≡◌, ◌≤◌, ◌<◌, ◌+◌, ◌*◌, ◌^◌, ℕ, List, [], Err, Some, None, length, IfOk, IfErr, OnOk, OnErr};
 ghost use Rattle.ids_outside.specs.Counts.{Rose};
 ghost use Rattle.ids_outside.specs.Images.{Image};
@@ -20,20 +23,24 @@ ghost use Rattle.log_buffer.specs.Buffers.{empty_at};
 ghost use Rattle.log_buffer.specs.Kept.{Flushed, KeepsLog, Outlives};
 ghost use Rattle.ids_model.specs.Tables.{Tables};
 ghost use Rattle.ids_model.specs.Recovered.{run};
+ghost use Rattle.fast_recovery.specs.Found.{IsKept};
 ghost use Rattle.fast_recovery.specs.Images.{first_checkpoint, log_region, page_count, Recovers};
 ghost use Rattle.fast_recovery.specs.Order.{closing};
 ghost use Rattle.fast_recovery.specs.Paged.{IsPaged};
 ghost use Rattle.fast_recovery.specs.PagedStates.{IsPagedState};
 ghost use Rattle.fast_recovery.specs.LogRead.{OpenCause, AreAlone};
+ghost use Rattle.fast_recovery.specs.RowDamaged.{RowsFault};
 ghost use Rattle.fast_recovery.specs.Opening.{files_from, FoundIn, SameLog, HasOpened, IsOpened, KeepsOpened, IsSince, OnlyBehind, TablesStay, IsWant, ClosingFault, IsRefusal, WasFormatted};
 
 use crate::fault::OpenFault;
 use crate::past::Past;
 use crate::replay::Replay;
 use crate::roll_forward::read_log;
+use crate::tables::{Found, TablesFault};
 use chunk_map::laws::{one_of_each, same_pages};
 use chunk_map::{CheckpointPage, Layout, newest, read_identity};
 use gate_blocks::laws::{apart, changes};
+use ids_base::memory::Memory;
 use ids_base::numbers::TxNo;
 use ids_base::position::LogPos;
 use ids_base::status::Place;
@@ -57,6 +64,8 @@ pub struct Opened {
     pub buffer: LogBuffer,
     /// What the log makes of pages and rows; nothing stands.
     pub replay: Replay,
+    /// The tables that these stand for.
+    pub found: Found,
     /// No transaction of the log has a greater number.
     pub last_tx: TxNo,
 }
@@ -66,13 +75,14 @@ pub struct Opened {
 /// Errors, in the order in which they are looked for: `NotFormatted` and `Damaged` as the identity page and the checkpoint pages
 /// say; `Damaged` also where the newest checkpoint is not the one that formatting writes, and at the first record of the log that
 /// is out of order or not in its place: a change names a page and a slot that are there, in a page of its table and its row's
-/// length, and an insert may name a page that has no owner yet. `LogFull` where a transaction is open and the log has no block
-/// left; `Disk` only where a call of the disk failed; `Memory` where memory was wanting. A stop at any moment leaves the tables
-/// as they were; where something was pending as the call began, at any moment behind that, unless the disk failed.
+/// length, and an insert may name a page that has no owner yet; and at a row that the log leaves and that breaks a rule of well
+/// formed rows. `LogFull` where a transaction is open and the log has no block left; `Disk` only where a call of the disk failed;
+/// `Memory` where memory was wanting. Where the disk is refused, nothing was written. A stop at any moment leaves the tables as
+/// they were; where something was pending as the call began, at any moment behind that, unless the disk failed.
 ///
 /// Reads the identity page once and the checkpoint pages twice, the blocks of the log up to the first that does not count, and
 /// the gate of each other block; a write for each open gate among these, two for the ROLLBACK, and a few syncs. It takes memory
-/// for the rows of the log, and for a buffer of eight blocks.
+/// for the rows of the log twice, and for a buffer of eight blocks.
 pub fn open_log<D: Disk>(alloc: Global, disk: &mut D) -> Result<Opened, OpenFault>
     ensures opened { IfOk result (λ o. D.tells → HasOpened (D.image disk.old) o) }
     // Also on a disk that does not tell its bytes.
@@ -90,6 +100,7 @@ pub fn open_log<D: Disk>(alloc: Global, disk: &mut D) -> Result<Opened, OpenFaul
     ensures refused { IfErr result (λ e. IsRefusal e → D.image disk.new ≡ D.image disk.old) }
     // An image from which tables are recovered is not refused.
     ensures accepts { IfErr result (λ e. D.tells → (T : Tables) → Recovers (D.image disk.old) T → ¬ IsRefusal e) }
+    ensures stop { IfErr result (λ e. IsRefusal e → AreAmong (D.can_leave disk.new) (D.can_leave disk.old)) }
     ensures sizes { (j : ℕ) → D.size disk.new j ≡ D.size disk.old j }
     ensures counted { D.fault_count disk.old ≤ D.fault_count disk.new }
     ensures cause { result ≡ Err OpenFault.Disk → Rose (D.fault_count disk.old) (D.fault_count disk.new) }
@@ -100,12 +111,16 @@ pub fn open_log<D: Disk>(alloc: Global, disk: &mut D) -> Result<Opened, OpenFaul
     runs_join();
     rollbacks_are_seen();
     let (layout, past) = read_disk(alloc, disk)?;
+    let mut replay = past.replay;
+    note_end(&mut replay, past.open_tx)?;
+    let found = tables_of(&replay)?;
     let (files, buffer) = start_log(alloc, disk, &layout, past.next)?;
     let mut opened = Opened {
         layout,
         files,
         buffer,
-        replay: past.replay,
+        replay,
+        found,
         last_tx: past.last_tx,
     };
     close_log(disk, &mut opened, past.open_tx)?;
@@ -152,6 +167,7 @@ fn read_disk<D: Disk>(alloc: Global, disk: &mut D) -> Result<(Layout, Past), Ope
     ensures from { IfOk result (λ r. 1 ≤ r.1.next) }
     ensures to { IfOk result (λ r. r.1.next ≤ 1 + r.0.logs * r.0.log_size) }
     ensures same { D.image disk.new ≡ D.image disk.old }
+    ensures stop { AreAmong (D.can_leave disk.new) (D.can_leave disk.old) }
     // A stop leaves what was read.
     ensures settled { IfOk result (λ r. Only (D.image disk.new) (D.can_leave disk.new)) }
     // Also one behind the moment at which it began, once the sync was done.
@@ -212,7 +228,29 @@ fn start_log<D: Disk>(
     Ok((files, buffer))
 }
 
-// Rolls back the transaction that is open, if one is: the ROLLBACK is noted, appended and flushed.
+// Notes a ROLLBACK of the transaction that is open, if one is.
+fn note_end(replay: &mut Replay, open_tx: Option<TxNo>) -> Result<(), Memory>
+    ensures { OnOk result (replay.new ≡ run replay.old (closing open_tx)) }
+{
+    let Some(tx) = open_tx else {
+        return Ok(());
+    };
+    replay.note(&Record::Rollback { tx })
+}
+
+// The tables that pages and rows stand for.
+fn tables_of(replay: &Replay) -> Result<Found, OpenFault>
+    ensures found { IfOk result (λ f. IsKept replay.now f.tables f.numbers f.greatest) }
+    ensures fault { IfErr result (RowsFault replay.now) }
+{
+    match replay.tables() {
+        Ok(found) => Ok(found),
+        Err(TablesFault::Memory) => Err(OpenFault::Memory),
+        Err(TablesFault::Damaged(row)) => Err(OpenFault::Damaged(Place::Row(row))),
+    }
+}
+
+// Rolls back the transaction that is open, if one is: the ROLLBACK is appended and flushed.
 fn close_log<D: Disk>(
     disk: &mut D,
     opened: &mut Opened,
@@ -221,11 +259,11 @@ fn close_log<D: Disk>(
     requires ready { IsReady D.size D.image D.can_leave opened.old.files disk.old }
     requires buffer { opened.old.buffer ≡ empty_at opened.old.files.next }
     requires number { opened.old.files.next < 2 ^ 63 }
-    requires alone { AreAlone open_tx opened.old.replay.standing }
 
     ensures layout { OnOk result (opened.new.layout ≡ opened.old.layout) }
     ensures last_tx { OnOk result (opened.new.last_tx ≡ opened.old.last_tx) }
-    ensures replay { OnOk result (opened.new.replay ≡ run opened.old.replay (closing open_tx)) }
+    ensures replay { OnOk result (opened.new.replay ≡ opened.old.replay) }
+    ensures found { OnOk result (opened.new.found ≡ opened.old.found) }
     ensures files { OnOk result (opened.new.files ≡ taken opened.old.files (length (closing open_tx))) }
     ensures buffer { OnOk result (opened.new.buffer ≡ empty_at opened.new.files.next) }
     // What is kept before it is kept on, with the ROLLBACK.
@@ -248,7 +286,6 @@ fn close_log<D: Disk>(
         return Err(OpenFault::LogFull);
     }
     let entry = Record::Rollback { tx };
-    opened.replay.note(&entry)?;
     opened.buffer.append(&entry);
     opened.buffer.flush(disk, &mut opened.files)?;
     Ok(())

@@ -4,7 +4,10 @@ ghost use Rattle.log_files.specs.Files.{AreNumbered};
 
 use crate::fault::OpenFault;
 use crate::opening::{files_of, open_log};
+use crate::tables::Found;
+use crate::tests::another_row;
 use chunk_map::{CheckpointPage, Layout, MapFault, has_pages, newest, write_identity, write_next};
+use ids_base::name::Name;
 use ids_base::position::LogPos;
 use ids_base::row_bytes::RowBytes;
 use ids_base::row_id::RowId;
@@ -24,10 +27,6 @@ const SMALL: Layout = Layout {
     data_pages: 2,
     root: 43,
 };
-
-const FIRST: &[u8] = b"\x00\x00\x00\x01one ";
-
-const SECOND: &[u8] = b"\x00\x00\x00\x02two ";
 
 // Writes the identity, and the first checkpoint page.
 fn format<D: Disk>(disk: &mut D) -> Result<(), MapFault> {
@@ -66,15 +65,14 @@ fn append<D: Disk>(disk: &mut D, bodies: &[BlockBody]) -> Result<(), OpenFault>
     Ok(())
 }
 
-fn insert(alloc: Global, tx: u64, slot: u32, bytes: &[u8]) -> Result<Record, Fail> {
-    if bytes.is_empty() || bytes.len() > 800 {
-        return Err("no row".into());
-    }
+// A new table goes into the catalogue.
+fn create(alloc: Global, tx: u64, slot: u32, number: u8, name: u8) -> Result<Record, Fail> {
+    let bytes = another_row(number, name);
     Ok(Record::HInsert {
         tx,
-        table: 100,
+        table: 1,
         row: RowId::from_number(slot),
-        after: RowBytes::new(alloc, bytes)?,
+        after: RowBytes::new(alloc, &bytes)?,
     })
 }
 
@@ -93,7 +91,7 @@ fn body(rt: &impl Abort, number: u64, records: &[Record]) -> BlockBody
     body
 }
 
-// What is found: the rows in two slots, the greatest transaction, and the block that comes next.
+// What is found: whether there are the tables t and u, the greatest transaction, and the block that comes next.
 #[derive(Clone, Copy, Debug, Drop, PartialEq, Eq)]
 struct Summary {
     has_first: bool,
@@ -103,11 +101,18 @@ struct Summary {
     next: u64,
 }
 
+fn has_table(found: &Found, name: &[u8]) -> bool {
+    match Name::new(name) {
+        None => false,
+        Some(name) => found.tables.table(&name).is_some(),
+    }
+}
+
 fn open<D: Disk>(alloc: Global, disk: &mut D) -> Result<Summary, OpenFault> {
     let opened = open_log(alloc, disk)?;
     Ok(Summary {
-        has_first: opened.replay.row_at(257) == Some(FIRST),
-        has_second: opened.replay.row_at(258).is_some(),
+        has_first: has_table(&opened.found, b"t"),
+        has_second: has_table(&opened.found, b"u"),
         has_standing: opened.replay.has_standing(),
         last_tx: opened.last_tx,
         next: opened.files.next(),
@@ -125,11 +130,11 @@ fn disk_of_two_blocks(rt: &impl Abort, alloc: Global) -> Result<MemDisk, Fail> {
     let mut disk = small_disk(rt, alloc)?;
     let first = [
         Record::Begin { tx: 1, session: 1 },
-        insert(alloc, 1, 257, FIRST)?,
+        create(alloc, 1, 257, 100, b't')?,
         Record::Commit { tx: 1 },
         Record::Begin { tx: 2, session: 1 },
     ];
-    let second = [insert(alloc, 2, 258, SECOND)?];
+    let second = [create(alloc, 2, 258, 200, b'u')?];
     let bodies = [body(rt, 1, &first), body(rt, 2, &second)];
     assert_eq!(rt; append(&mut disk, &bodies), Ok(()));
     Ok(disk)
@@ -210,5 +215,31 @@ fn other_disks_are_refused(rt: HostRuntime) -> Result<(), Fail> {
     assert_eq!(rt; append(&mut disk, &[body(&rt, 1, &records)]), Ok(()));
     let place = Place::Record(LogPos { block: 1, index: 1 });
     assert_eq!(rt; open(alloc, &mut disk), Err(OpenFault::Damaged(place)));
+    Ok(())
+}
+
+// Transaction 1 puts two tables of one name into the catalogue, and transaction 2 is open at the end.
+fn disk_of_one_name(rt: &impl Abort, alloc: Global) -> Result<MemDisk, Fail> {
+    let mut disk = small_disk(rt, alloc)?;
+    let records = [
+        Record::Begin { tx: 1, session: 1 },
+        create(alloc, 1, 257, 100, b't')?,
+        create(alloc, 1, 258, 101, b't')?,
+        Record::Commit { tx: 1 },
+        Record::Begin { tx: 2, session: 1 },
+    ];
+    assert_eq!(rt; append(&mut disk, &[body(rt, 1, &records)]), Ok(()));
+    Ok(disk)
+}
+
+#[test]
+fn a_broken_row_is_named_before_anything_is_written(rt: HostRuntime) -> Result<(), Fail> {
+    let alloc = rt.alloc();
+    let mut disk = disk_of_one_name(&rt, alloc)?;
+    let before = disk.left_at(alloc, disk.moment(), Leave::New)?;
+    let broken = Err(OpenFault::Damaged(Place::Row(258)));
+    assert_eq!(rt; open(alloc, &mut disk), broken);
+    let after = disk.left_at(alloc, disk.moment(), Leave::New)?;
+    assert!(rt; before == after);
     Ok(())
 }

@@ -222,7 +222,7 @@ fn text_of(row: &Row) -> &[u8] {
 }
 
 // The row of the catalogue with another number, below 256, and another name of one byte.
-fn another_row(number: u8, name: u8) -> [u8; 359] {
+pub(crate) fn another_row(number: u8, name: u8) -> [u8; 359] {
     let mut row = catalogue_row();
     row[3] = number;
     row[4] = name;
@@ -289,33 +289,56 @@ fn pages_without_rows_count(rt: HostRuntime) -> Result<(), Fail> {
 }
 
 #[test]
-fn damaged_catalogues_are_refused(rt: HostRuntime) -> Result<(), Fail> {
+fn the_row_that_breaks_the_catalogue_is_named(rt: HostRuntime) -> Result<(), Fail> {
     let alloc = rt.alloc();
     let name_twice = damage_with(alloc, 1, 258, &another_row(101, b't'))?;
     assert_eq!(rt; name_twice, 258);
     let number_twice = damage_with(alloc, 1, 258, &another_row(100, b'u'))?;
     assert_eq!(rt; number_twice, 258);
+    let before = damage_with(alloc, 1, 256, &another_row(101, b't'))?;
+    assert_eq!(rt; before, 257, "of two names the greater row id");
     let low_number = damage_with(alloc, 1, 258, &another_row(99, b'u'))?;
     assert_eq!(rt; low_number, 258);
+    let no_name = damage_with(alloc, 1, 259, &another_row(101, b'1'))?;
+    assert_eq!(rt; no_name, 259);
     let short_row = damage_with(alloc, 1, 770, AB)?;
-    assert_eq!(rt; short_row, 769, "a page of table 1");
+    assert_eq!(rt; short_row, 769, "slot 1 of a page of table 1");
     Ok(())
 }
 
 #[test]
-fn damaged_rows_are_refused(rt: HostRuntime) -> Result<(), Fail> {
+fn the_row_that_breaks_a_table_is_named(rt: HostRuntime) -> Result<(), Fail> {
     let alloc = rt.alloc();
     let good = damage_with(alloc, 100, 514, b"\x00\x00\x00\x08ab  ")?;
     assert_eq!(rt; good, 0);
     let unowned = damage_without_owner(alloc)?;
     assert_eq!(rt; unowned, 1025);
-    let unnamed = damage_with(alloc, 101, 769, CD)?;
-    assert_eq!(rt; unnamed, 769);
+    let unnamed = damage_with(alloc, 101, 771, CD)?;
+    assert_eq!(rt; unnamed, 771);
     let unread = damage_with(alloc, 100, 514, b"\x80\x00\x00\x00ab  ")?;
     assert_eq!(rt; unread, 514);
     let key_twice = damage_with(alloc, 100, 514, CD)?;
     assert_eq!(rt; key_twice, 514);
-    let long = damage_with(alloc, 100, 770, b"\x00\x00\x00\x08ab   ")?;
-    assert_eq!(rt; long, 769, "a page of rows of 9 bytes");
+    let before = damage_with(alloc, 100, 512, CD)?;
+    assert_eq!(rt; before, 513, "of two keys the greater row id");
+    let elsewhere = damage_with(alloc, 100, 1027, CD)?;
+    assert_eq!(rt; elsewhere, 1027, "a key of another page");
+    Ok(())
+}
+
+// A page of table 100 with a row of 9 bytes, and without it again.
+fn damage_with_long_page(alloc: Global) -> Result<(u32, u32), Fail> {
+    let long = b"\x00\x00\x00\x08ab   ";
+    let mut replay = with_row(alloc, 100, 770, long)?;
+    let filled = damage(&replay);
+    go_on(&mut replay, delete(alloc, 2, 770, long)?)?;
+    Ok((filled, damage(&replay)))
+}
+
+#[test]
+fn a_page_of_another_length_is_named_by_its_slot_1(rt: HostRuntime) -> Result<(), Fail> {
+    let (filled, emptied) = damage_with_long_page(rt.alloc())?;
+    assert_eq!(rt; filled, 769);
+    assert_eq!(rt; emptied, 769, "no slot of it holds a row");
     Ok(())
 }

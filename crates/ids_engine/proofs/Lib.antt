@@ -16,5 +16,4 @@ pub mod Opened
 pub mod FirstsCovered
 pub mod JournalsGrow
 pub mod InOrder
-pub mod Accepted
 pub mod BlankTables

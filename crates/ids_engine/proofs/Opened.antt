@@ -1,7 +1,6 @@
 -- The store that is made of an opened disk.
-use Rattle.std.proofs.Common.{◌≡◌, inl, inr, ℕ, ◌+◌, ◌*◌, ◌≤◌, refl, ap, sym, ◌∙◌, subst, List, [], ◌++◌, length, Option, Some, None, arith}
+use Rattle.std.proofs.Common.{◌≡◌, ℕ, ◌+◌, ◌*◌, ◌≤◌, refl, ap, sym, ◌∙◌, subst, List, [], ◌++◌, length, Option, Some, None, arith}
 use Rattle.std.proofs.lemmas.List.{append-nil}
-use Rattle.ids_base.specs.declared.status.Place.TheVariants.{Identity, Checkpoint, Entry as EntryAt, DataPage, Block, Record, Row}
 use Rattle.ids_outside.specs.Images.{Image}
 use Rattle.chunk_map.specs.Layouts.{IsLayout}
 use Rattle.log_records.specs.Entries.{Entry}
@@ -10,21 +9,17 @@ use Rattle.log_buffer.specs.Kept.{Flushed, tail_entries, HasLog, KeepsLog}
 use Rattle.ids_model.specs.Tables.{Tables}
 use Rattle.ids_model.specs.Recovered.{State, nothing, run, seen, all_taken_back}
 use Rattle.ids_model.specs.Slots.{Slots, assign}
-use Rattle.ids_model.specs.Stands.{Stands, IsWhole}
+use Rattle.ids_model.specs.Stands.{Stands}
 use Rattle.ids_model.specs.Logged.{StandsWhole, IsRecovered}
 use Rattle.ids_model.specs.RecoveryLaws.{RunsJoin, RollbacksAreSeen, TablesAreOne}
 use Rattle.fast_recovery.specs.Images.{HasEmptyBase, log_in}
 use Rattle.fast_recovery.specs.Order.{open_in, closing}
-use Rattle.fast_recovery.specs.LogRead.{OpenCause}
-use Rattle.fast_recovery.specs.Opening.{HasOpened, IsOpened, IsCounted, TablesStay}
+use Rattle.fast_recovery.specs.Opening.{IsOpened, IsCounted, TablesStay}
 use Rattle.fast_recovery.specs.declared.opening.Opened.{Opened}
-use Rattle.fast_recovery.specs.declared.fault.OpenFault.{OpenFault}
-use Rattle.fast_recovery.specs.declared.fault.OpenFault.TheVariants.{Disk, Memory, NotFormatted, Damaged, LogFull}
 use Rattle.fast_recovery.proofs.OrderFronts.{open_in-closed}
 use Rattle.fast_recovery.proofs.SeenTables.{front-recovers}
 use Rattle.ids_engine.specs.Kept.{IsKept}
 use Rattle.ids_engine.specs.Stores.{History, IsHistory, IsLogFor, KeepsStore, IsStore, entries_of, state_of}
-use Rattle.ids_engine.specs.Openings.{Refuses, RowsFault}
 use Rattle.ids_engine.specs.declared.store.Store.{Store}
 
 pub same_last : (o : Option (Option ℕ)) (p q : Option ℕ) → o ≡ Some p → o ≡ Some q → p ≡ q
@@ -121,35 +116,6 @@ module _ (s : Store) (idle : s.current ≡ None) (none : s.undo ≡ []) (ranges 
           keeps = fresh_keeps ⊥ (now disk) x before [] [] (λ no. absurd no) (λ no. absurd no) (λ no. absurd no) (λ no. absurd no) (λ no. absurd no)
               (subst (λ (b : Buffer). KeepsLog size now image can_leave left_at (now disk) x before [] [] s.files b disk) (sym buffer) keeps);
         }
-
--- Why an image is refused.
-
-pub refuses_of : (x : Image) (e : OpenFault) → OpenCause x e → Refuses x e
-refuses_of x Disk why = why
-refuses_of x Memory why = why
-refuses_of x NotFormatted why = why
-refuses_of x (Damaged Identity) why = why
-refuses_of x (Damaged (Checkpoint c)) why = why
-refuses_of x (Damaged (EntryAt k)) why = why
-refuses_of x (Damaged (DataPage k)) why = why
-refuses_of x (Damaged (Block b)) why = why
-refuses_of x (Damaged (Record pos)) why = why
-refuses_of x (Damaged (Row n)) why = absurd why
-refuses_of x LogFull why = why
-
-pub refuses_rows : (x : Image) (o : Opened) (e : OpenFault) → HasOpened x o → RowsFault o.replay e → Refuses x e
-refuses_rows x o e has (inl wants) = subst (Refuses x) (sym wants) tt
-refuses_rows x o e has (inr (row, is, bad)) = subst (Refuses x) (sym is) (record {
-  layout = o.layout;
-  has = has.layout;
-  last = has.last;
-  in_order = has.in_order;
-  damaged = λ whole. bad (subst (λ (t : State). IsWhole t.own t.slots) (sym has.replay) whole);
-})
-
-pub no_disk_fault : (s : State) → ¬ RowsFault s Disk
-no_disk_fault s (inl same) = cc
-no_disk_fault s (inr (row, is, bad)) = cc
 
 -- Where tables stay at the moments of one kind, they stay at those of a kind of fewer.
 

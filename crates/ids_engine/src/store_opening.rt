@@ -1,22 +1,19 @@
 //! Opening a store.
 ghost use Rattle.std.specs.Prelude.{◌≡◌, ◌≤◌, ℕ, [], Err, IfOk, IfErr, OnOk};
 ghost use Rattle.ids_outside.specs.Counts.{Rose};
+ghost use Rattle.ids_outside.specs.Stops.{AreAmong};
 ghost use Rattle.fast_recovery.specs.Images.{Recovers};
 ghost use Rattle.fast_recovery.specs.Opening.{TablesStay, IsRefusal, WasFormatted};
 ghost use Rattle.chunk_map.specs.Formatted.{IsFormatted};
 ghost use Rattle.ids_model.specs.Tables.{Tables};
-ghost use Rattle.ids_engine.specs.Kept.{IsKept};
 ghost use Rattle.ids_engine.specs.Stores.{IsStore};
-ghost use Rattle.ids_engine.specs.Openings.{HasFound, Refuses, RowsFault};
+ghost use Rattle.ids_engine.specs.Openings.{HasFound, Refuses};
 
 use crate::store::Store;
 use chunk_map::laws::one_of_each;
 use fast_recovery::OpenFault;
 use fast_recovery::opening::open_log;
-use fast_recovery::replay::Replay;
-use fast_recovery::tables::{Found, TablesFault};
 use ids_base::list::List;
-use ids_base::status::Place;
 use ids_model::recovery_laws::{rollbacks_are_seen, runs_join, tables_are_one};
 use ids_outside::Disk;
 use log_buffer::laws::openings_keep;
@@ -29,10 +26,10 @@ impl Store {
     /// behind that, unless the disk failed.
     ///
     /// Errors, in the order in which they are looked for: `NotFormatted` and `Damaged` as the identity page and the checkpoint
-    /// pages say; `Damaged` also where the newest checkpoint is not the one that formatting writes, or a record of the log is
-    /// out of order; `LogFull` where a transaction is open and the log has no block left; `Damaged` with a row id where the rows
-    /// that the log leaves are no well formed ones; `Disk` only where a call of the disk failed; `Memory` where memory was
-    /// wanting.
+    /// pages say; `Damaged` also where the newest checkpoint is not the one that formatting writes, where a record of the log is
+    /// out of order, or, with its row id, where the log leaves a row that breaks a rule of well formed rows; `LogFull` where a
+    /// transaction is open and the log has no block left; `Disk` only where a call of the disk failed; `Memory` where memory was
+    /// wanting. Where the disk is refused, nothing was written.
     ///
     /// Three pages are read twice, each block of the log once and once more where it is not taken; at most three writes for
     /// each block that is closed or taken, and some syncs. It takes memory for the rows of the log twice, and 16 KB.
@@ -48,6 +45,9 @@ impl Store {
         ensures refused { IfErr result (λ e. D.tells → Refuses (D.image disk.old) e) }
         // An image from which tables are recovered is not refused.
         ensures accepts { IfErr result (λ e. D.tells → (T : Tables) → Recovers (D.image disk.old) T → ¬ IsRefusal e) }
+        // A disk that is refused is as it was.
+        ensures untouched { IfErr result (λ e. IsRefusal e → D.image disk.new ≡ D.image disk.old) }
+        ensures stop { IfErr result (λ e. IsRefusal e → AreAmong (D.can_leave disk.new) (D.can_leave disk.old)) }
         ensures counted { D.fault_count disk.old ≤ D.fault_count disk.new }
         ensures disk_fault { result ≡ Err OpenFault.Disk → Rose (D.fault_count disk.old) (D.fault_count disk.new) }
         ensures sizes { (j : ℕ) → D.size disk.new j ≡ D.size disk.old j }
@@ -59,7 +59,7 @@ impl Store {
         tables_are_one();
         let opened = open_log(alloc, disk)?;
         next_is_within(&opened.files);
-        let found = tables_of(&opened.replay)?;
+        let found = opened.found;
         Ok(Store {
             alloc,
             layout: opened.layout,
@@ -73,18 +73,6 @@ impl Store {
             current: None,
             undo: List::new(alloc),
         })
-    }
-}
-
-// The tables that pages and rows stand for.
-fn tables_of(replay: &Replay) -> Result<Found, OpenFault>
-    ensures kept { IfOk result (λ f. IsKept replay.now f.tables f.numbers f.greatest) }
-    ensures fault { IfErr result (RowsFault replay.now) }
-{
-    match replay.tables() {
-        Ok(found) => Ok(found),
-        Err(TablesFault::Memory) => Err(OpenFault::Memory),
-        Err(TablesFault::Damaged(row)) => Err(OpenFault::Damaged(Place::Row(row))),
     }
 }
 

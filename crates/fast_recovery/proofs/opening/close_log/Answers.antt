@@ -11,12 +11,8 @@ pub returns-then-free-eq0-clause-outlives : goal.returns-then-free-eq0-clause-ou
 returns-then-free-eq0-clause-outlives g c = λ since base before keeps.
     outlives-more g.D.Disk.now g.D.Disk.left_at since base before (closing c.args.open_tx) [] c.args.opened.now.files c.args.disk.now keeps.outlives
 
-pub returns-in_err-note-clause-outlives : goal.returns-in_err-note-clause-outlives
-returns-in_err-note-clause-outlives g c = on_err c.from_residual.result (λ since base before keeps.
-    outlives-more g.D.Disk.now g.D.Disk.left_at since base before (closing c.args.open_tx) [] c.args.opened.now.files c.args.disk.now keeps.outlives)
-
 pub returns-in_err-flush-clause-outlives : goal.returns-in_err-flush-clause-outlives
-returns-in_err-flush-clause-outlives g c = on_err c.from_residual-in_err-flush.result (λ since base before keeps.
+returns-in_err-flush-clause-outlives g c = on_err c.from_residual.result (λ since base before keeps.
     let d = g.D.Disk in let disk = c.args.disk.now in let files = c.args.opened.now.files in let entry = Rollback c.in-Some.tx in
     let is : closing c.args.open_tx ≡ entry ∷ [] = ap closing c.in-Some.is in
     let appended = subst (λ (b : Buffer). KeepsLog d.size d.now d.image d.can_leave d.left_at since base before (entry ∷ []) [] files b disk) (sym c.append.ensures.appended)

@@ -15,10 +15,11 @@ use Rattle.fast_recovery.specs.InPlace.{all_in_place}
 use Rattle.fast_recovery.specs.Paged.{IsPaged}
 use Rattle.fast_recovery.specs.PagedStates.{IsPagedState}
 use Rattle.fast_recovery.specs.LogRead.{AreUpTo, OpenCause}
+use Rattle.fast_recovery.specs.RowDamaged.{RowsFault}
 use Rattle.fast_recovery.specs.Opening.{files_from, WasFormatted, IsWant, ClosingFault, IsRefusal}
 use Rattle.fast_recovery.proofs.BlocksRead.{length-held}
 use Rattle.fast_recovery.proofs.Accepted.{accepted, want-accepted, closing-accepted}
-use Rattle.fast_recovery.proofs.Causes.{closing-cause, is-formatted}
+use Rattle.fast_recovery.proofs.Causes.{closing-cause, rows-cause, is-formatted}
 use Rattle.fast_recovery.proofs.Paging.{paged-closing}
 use Rattle.fast_recovery.proofs.Results.{err-goes-up, no-disk-fault, at-err}
 use Rattle.fast_recovery.proofs.Keeping.{is-since, read-tables, same-since, keeps-cleared}
@@ -43,6 +44,37 @@ returns-in_err-layout-clause-was_formatted g c =
     err-goes-up c.from_residual.result _ (λ e. g.D.Disk.tells → WasFormatted base e) c.from_residual.ensures.1 (λ e is tells.
     let same : e ≡ c.in_err-layout.field-0.0 = is in
     subst (λ k. WasFormatted base k) (sym same) (c.in_err-layout.ensures.was_formatted tells))
+
+pub returns-in_err-note_end-clause-any_moment : goal.returns-in_err-note_end-clause-any_moment
+returns-in_err-note_end-clause-any_moment g c =
+    let d = g.D.Disk in let old = c.args.disk.now in let mid = c.read_disk.new.disk in
+    read-tables d.size d.now d.image d.can_leave d.left_at g.met.D.Disk.no_later g.met.D.Disk.only_now old mid _ c.read_disk.ensures.any_moment
+    (λ none. c.in_ok-layout.ensures.behind (λ no. cc))
+
+pub returns-in_err-note_end-clause-was_formatted : goal.returns-in_err-note_end-clause-was_formatted
+returns-in_err-note_end-clause-was_formatted g c =
+    at-err c.from_residual-in_err-note_end.result _ (λ e tells. is-formatted (g.D.Disk.image c.args.disk.now) e (c.in_ok-layout.ensures.formatted tells))
+
+pub returns-in_err-found-clause-any_moment : goal.returns-in_err-found-clause-any_moment
+returns-in_err-found-clause-any_moment g c =
+    let d = g.D.Disk in let old = c.args.disk.now in let mid = c.read_disk.new.disk in
+    read-tables d.size d.now d.image d.can_leave d.left_at g.met.D.Disk.no_later g.met.D.Disk.only_now old mid _ c.read_disk.ensures.any_moment
+    (λ none. c.in_ok-layout.ensures.behind (λ no. cc))
+
+pub returns-in_err-found-clause-was_formatted : goal.returns-in_err-found-clause-was_formatted
+returns-in_err-found-clause-was_formatted g c =
+    at-err c.from_residual-in_err-found.result _ (λ e tells. is-formatted (g.D.Disk.image c.args.disk.now) e (c.in_ok-layout.ensures.formatted tells))
+
+pub returns-in_err-found-clause-fault : goal.returns-in_err-found-clause-fault
+returns-in_err-found-clause-fault g c =
+    let base = g.D.Disk.image c.args.disk.now in let l = c.in_ok-layout.layout in let p = c.in_ok-layout.past in
+    err-goes-up c.from_residual-in_err-found.result _ (λ e. g.D.Disk.tells → OpenCause base e) c.from_residual-in_err-found.ensures.1 (λ e is tells.
+    let same : e ≡ c.in_err-found.field-0.0 = is in
+    let found = c.in_ok-layout.ensures.found tells in
+    subst (λ k. OpenCause base k) (sym same)
+    (rows-cause base l p c.in_err-found.field-0.0 found.layout found.read.after
+    (c.runs_join.ensures nothing (log_in l base) (closing p.open_tx))
+    (subst (λ (s : State). RowsFault s c.in_err-found.field-0.0) c.in_ok-note_end.ensures c.in_err-found.ensures.fault)))
 
 pub returns-in_err-files-clause-any_moment : goal.returns-in_err-files-clause-any_moment
 returns-in_err-files-clause-any_moment g c = λ room m y counted left.
@@ -106,7 +138,7 @@ returns-clause-opened g c = λ tells.
       last = p.open_tx;
       in_order = ap (λ (k : Layout). open_in None (log_in k base)) close.layout ∙ after.order;
       in_place = subst (λ (k : Layout). all_in_place (page_count k) empty (log_in k base) ≡ true) (sym close.layout) after.places;
-      replay = close.replay ∙ ap (λ (s : State). run s (closing p.open_tx)) after.replay ∙ sym (c.runs_join.ensures nothing (log_in l base) (closing p.open_tx))
+      replay = close.replay ∙ c.in_ok-note_end.ensures ∙ ap (λ (s : State). run s (closing p.open_tx)) after.replay ∙ sym (c.runs_join.ensures nothing (log_in l base) (closing p.open_tx))
           ∙ ap (λ (k : Layout). run nothing (log_in k base ++ closing p.open_tx)) (sym close.layout);
       greatest = subst (λ (n : ℕ). AreUpTo n (log_in c.close_log.new.opened.layout base)) (sym close.last_tx)
           (subst (λ (k : Layout). AreUpTo p.last_tx (log_in k base)) (sym close.layout) after.greatest);
@@ -116,7 +148,7 @@ pub returns-clause-paged : goal.returns-clause-paged
 returns-clause-paged g c =
     let close = c.in_ok-close_log.ensures in let l = c.in_ok-layout.layout in let p = c.in_ok-layout.past in
     let paged : IsPagedState (page_count l) c.close_log.new.opened.replay =
-    subst (λ (s : State). IsPagedState (page_count l) s) (sym close.replay) (paged-closing (page_count l) p.replay p.open_tx c.in_ok-layout.ensures.paged) in
+    subst (λ (s : State). IsPagedState (page_count l) s) (sym (close.replay ∙ c.in_ok-note_end.ensures)) (paged-closing (page_count l) p.replay p.open_tx c.in_ok-layout.ensures.paged) in
     subst (λ (k : Layout). IsPaged (page_count k) c.close_log.new.opened.replay.own c.close_log.new.opened.replay.slots) (sym close.layout) paged.stands
 
 pub returns-clause-ready : goal.returns-clause-ready
@@ -167,7 +199,7 @@ returns-in_err-layout-clause-accepts g c =
     let base = g.D.Disk.image c.args.disk.now in let fault = c.in_err-layout.field-0.0 in
     err-goes-up c.from_residual.result _ (λ e. g.D.Disk.tells → (T : Tables) → Recovers base T → ¬ IsRefusal e) c.from_residual.ensures.1 (λ e is tells T recovers.
     let same : e ≡ fault = is in
-    accepted c.runs_join.ensures (record { layout = c.one_of_each.ensures.layout; newest = c.one_of_each.ensures.newest }) base T e recovers (subst (OpenCause base) (sym same) (c.in_err-layout.ensures.fault tells)))
+    accepted c.runs_join.ensures c.rollbacks_are_seen.ensures (record { layout = c.one_of_each.ensures.layout; newest = c.one_of_each.ensures.newest }) base T e recovers (subst (OpenCause base) (sym same) (c.in_err-layout.ensures.fault tells)))
 
 pub returns-in_err-files-clause-accepts : goal.returns-in_err-files-clause-accepts
 returns-in_err-files-clause-accepts g c =
@@ -182,3 +214,15 @@ returns-in_err-close_log-clause-accepts g c =
     err-goes-up c.from_residual-in_err-close_log.result _ (λ e. g.D.Disk.tells → (T : Tables) → Recovers base T → ¬ IsRefusal e) c.from_residual-in_err-close_log.ensures.1 (λ e is tells T recovers.
     let same : e ≡ fault = is in
     closing-accepted _ e (subst (ClosingFault _) (sym same) c.in_err-close_log.ensures.fault))
+
+pub returns-in_err-found-clause-accepts : goal.returns-in_err-found-clause-accepts
+returns-in_err-found-clause-accepts g c =
+    let base = g.D.Disk.image c.args.disk.now in let l = c.in_ok-layout.layout in let p = c.in_ok-layout.past in
+    err-goes-up c.from_residual-in_err-found.result _ (λ e. g.D.Disk.tells → (T : Tables) → Recovers base T → ¬ IsRefusal e) c.from_residual-in_err-found.ensures.1 (λ e is tells T recovers.
+    let same : e ≡ c.in_err-found.field-0.0 = is in
+    let found = c.in_ok-layout.ensures.found tells in
+    accepted c.runs_join.ensures c.rollbacks_are_seen.ensures (record { layout = c.one_of_each.ensures.layout; newest = c.one_of_each.ensures.newest }) base T e recovers
+    (subst (OpenCause base) (sym same)
+    (rows-cause base l p c.in_err-found.field-0.0 found.layout found.read.after
+    (c.runs_join.ensures nothing (log_in l base) (closing p.open_tx))
+    (subst (λ (s : State). RowsFault s c.in_err-found.field-0.0) c.in_ok-note_end.ensures c.in_err-found.ensures.fault))))

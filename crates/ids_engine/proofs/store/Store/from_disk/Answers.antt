@@ -7,11 +7,9 @@ use Rattle.ids_model.specs.Logged.{IsRecovered}
 use Rattle.fast_recovery.specs.Images.{HasEmptyBase, log_in, Recovers}
 use Rattle.fast_recovery.specs.Order.{open_in, closing}
 use Rattle.fast_recovery.specs.Opening.{IsRefusal, WasFormatted}
-use Rattle.fast_recovery.proofs.Causes.{is-formatted}
-use Rattle.fast_recovery.proofs.Results.{err-goes-up, no-disk-fault, at-err}
+use Rattle.fast_recovery.proofs.Results.{err-goes-up, no-disk-fault}
 use Rattle.ids_engine.specs.declared.store.Store.{Store}
-use Rattle.ids_engine.proofs.Accepted.{recovered_is_accepted}
-use Rattle.ids_engine.proofs.Opened.{opened_log, one_found, found_keeps, sound_opening, same_last, refuses_rows, stay_for}
+use Rattle.ids_engine.proofs.Opened.{opened_log, one_found, found_keeps, sound_opening, same_last, stay_for}
 use Rattle.ids_engine.proofs.store.Store.from_disk.Goals as goal
 
 pub returns-clause-sound : goal.returns-clause-sound
@@ -19,7 +17,7 @@ returns-clause-sound g c =
     let d = g.D.Disk in
     let o = c.in_ok-opened.opened in
     let is = c.in_ok-opened.ensures.in_order in
-    let found = c.in_ok-found.found in
+    let found = o.found in
     let disk = c.open_log.new.disk in
     let x : Image = d.image c.args.disk.now in
     let store : Store = record {
@@ -35,7 +33,7 @@ returns-clause-sound g c =
       current = None;
       undo = c.new.result;
     } in
-    sound_opening store refl c.new.ensures is.layout (opened_log o is c.next_is_within.ensures) is.quiet c.in_ok-found.ensures.kept
+    sound_opening store refl c.new.ensures is.layout (opened_log o is c.next_is_within.ensures) is.quiet is.found
     d.size d.now d.image d.can_leave d.left_at disk d.tells x is.buffer
     (λ y can. g.met.D.Disk.left_tells disk (d.now disk) y (g.met.D.Disk.counts_now disk y can)) (g.met.D.Disk.image_left disk)
     (λ before held. c.openings_keep.ensures x before o.files disk c.in_ok-opened.ensures.ready held)
@@ -49,7 +47,7 @@ returns-clause-kept g c = λ T told recovers.
     let o = c.in_ok-opened.opened in
     let is = c.in_ok-opened.ensures.in_order in
     let has = c.in_ok-opened.ensures.opened told in
-    let found = c.in_ok-found.found in
+    let found = o.found in
     let disk = c.open_log.new.disk in
     let x : Image = d.image c.args.disk.now in
     let store : Store = record {
@@ -66,7 +64,7 @@ returns-clause-kept g c = λ T told recovers.
       undo = c.new.result;
     } in
     let log = opened_log o is c.next_is_within.ensures in
-    let memory = c.in_ok-found.ensures.kept in
+    let memory = is.found in
     let layout : recovers.layout ≡ o.layout = c.one_of_each.ensures.layout recovers.layout o.layout x recovers.base.layout has.layout in
     let base : HasEmptyBase o.layout x = subst (λ (l : Layout). HasEmptyBase l x) layout recovers.base in
     let was : IsRecovered (log_in o.layout x) T = subst (λ (l : Layout). IsRecovered (log_in l x) T) layout recovers.tables in
@@ -87,14 +85,6 @@ returns-in_err-opened-clause-accepts g c =
     let same : e ≡ fault = is in
     subst (λ k. ¬ IsRefusal k) (sym same) (c.in_err-opened.ensures.accepts told T recovers))
 
-pub returns-in_err-found-clause-accepts : goal.returns-in_err-found-clause-accepts
-returns-in_err-found-clause-accepts g c =
-    let x : Image = g.D.Disk.image c.args.disk.now in let fault = c.in_err-found.field-0.0 in
-    err-goes-up c.from_residual-in_err-found.result _ (λ e. g.D.Disk.tells → (T : Tables) → Recovers x T → ¬ IsRefusal e) c.from_residual-in_err-found.ensures.1 (λ e is told T recovers.
-    let same : e ≡ fault = is in
-    let why = refuses_rows x c.in_ok-opened.opened fault (c.in_ok-opened.ensures.opened told) c.in_err-found.ensures.fault in
-    subst (λ k. ¬ IsRefusal k) (sym same) (recovered_is_accepted x T fault recovers why))
-
 pub returns-in_err-opened-clause-any_moment : goal.returns-in_err-opened-clause-any_moment
 returns-in_err-opened-clause-any_moment g c =
     let d = g.D.Disk in
@@ -107,15 +97,6 @@ returns-in_err-opened-clause-was_formatted g c =
     err-goes-up c.from_residual.result _ (λ e. g.D.Disk.tells → WasFormatted x e) c.from_residual.ensures.1 (λ e is told.
     let same : e ≡ c.in_err-opened.field-0.0 = is in
     subst (λ k. WasFormatted x k) (sym same) (c.in_err-opened.ensures.was_formatted told))
-
-pub returns-in_err-found-clause-any_moment : goal.returns-in_err-found-clause-any_moment
-returns-in_err-found-clause-any_moment g c =
-    let d = g.D.Disk in
-    stay_for d.now d.image d.can_leave d.left_at c.args.disk.now c.open_log.new.disk _ _ (λ other no. cc) c.in_ok-opened.ensures.any_moment
-
-pub returns-in_err-found-clause-was_formatted : goal.returns-in_err-found-clause-was_formatted
-returns-in_err-found-clause-was_formatted g c =
-    at-err c.from_residual-in_err-found.result _ (λ e told. is-formatted (g.D.Disk.image c.args.disk.now) e (c.in_ok-opened.ensures.formatted told))
 
 pub returns-clause-any_moment : goal.returns-clause-any_moment
 returns-clause-any_moment g c =
