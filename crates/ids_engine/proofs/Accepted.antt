@@ -14,7 +14,7 @@ use Rattle.ids_model.proofs.TakingBack.{runs_join, rollbacks_are_seen}
 use Rattle.fast_recovery.specs.Images.{log_in, Recovers}
 use Rattle.fast_recovery.specs.Order.{open_in, closing}
 use Rattle.fast_recovery.specs.declared.fault.OpenFault.TheVariants.{Disk, Memory, NotFormatted, Damaged, LogFull}
-use Rattle.fast_recovery.proofs.Accepted.{one_layout, accepted}
+use Rattle.fast_recovery.proofs.Accepted.{OneOfEach, accepted}
 use Rattle.fast_recovery.proofs.Ordered.{alone-run}
 use Rattle.fast_recovery.proofs.SeenTables.{closed-standing, front-recovers}
 use Rattle.ids_engine.specs.Openings.{HasRowsDamaged, RecoveredIsAccepted}
@@ -30,21 +30,22 @@ closed_whole log last T order recovered =
     ap (λ (t : State). t.standing) (runs_join nothing log (closing last)) ∙ closed-standing runs_join rollbacks_are_seen s last (alone-run None last log [] refl order) in
     subst (λ (slots : Slots). IsWhole now.own slots) (ap (λ cs. assign now.slots (all_taken_back cs)) quiet) closed.whole
 
-rows_whole : (x : Image) (T : Tables) → Recovers x T → HasRowsDamaged x → ⊥
-rows_whole x T r d =
-    let same : r.layout ≡ d.layout = one_layout r.layout d.layout x r.base.layout d.has in
-    let recovered : IsRecovered (log_in d.layout x) T = subst (λ (l : Layout). IsRecovered (log_in l x) T) same r.tables in
-    d.damaged (closed_whole (log_in d.layout x) d.last T d.in_order recovered)
+module _ (one : OneOfEach) where
+  rows_whole : (x : Image) (T : Tables) → Recovers x T → HasRowsDamaged x → ⊥
+  rows_whole x T r d =
+      let same : r.layout ≡ d.layout = one.layout r.layout d.layout x r.base.layout d.has in
+      let recovered : IsRecovered (log_in d.layout x) T = subst (λ (l : Layout). IsRecovered (log_in l x) T) same r.tables in
+      d.damaged (closed_whole (log_in d.layout x) d.last T d.in_order recovered)
 
-pub recovered_is_accepted : RecoveredIsAccepted
-recovered_is_accepted x T Disk r why = λ refusal. refusal
-recovered_is_accepted x T Memory r why = λ refusal. refusal
-recovered_is_accepted x T NotFormatted r why = accepted x T NotFormatted r why
-recovered_is_accepted x T (Damaged Identity) r why = accepted x T (Damaged Identity) r why
-recovered_is_accepted x T (Damaged (Checkpoint c)) r why = accepted x T (Damaged (Checkpoint c)) r why
-recovered_is_accepted x T (Damaged (EntryAt k)) r why = λ refusal. why
-recovered_is_accepted x T (Damaged (DataPage k)) r why = λ refusal. why
-recovered_is_accepted x T (Damaged (Block b)) r why = λ refusal. why
-recovered_is_accepted x T (Damaged (Record pos)) r why = accepted x T (Damaged (Record pos)) r why
-recovered_is_accepted x T (Damaged (Row row)) r why = λ refusal. rows_whole x T r why
-recovered_is_accepted x T LogFull r why = λ refusal. refusal
+  pub recovered_is_accepted : RecoveredIsAccepted
+  recovered_is_accepted x T Disk r why = λ refusal. refusal
+  recovered_is_accepted x T Memory r why = λ refusal. refusal
+  recovered_is_accepted x T NotFormatted r why = accepted runs_join one x T NotFormatted r why
+  recovered_is_accepted x T (Damaged Identity) r why = accepted runs_join one x T (Damaged Identity) r why
+  recovered_is_accepted x T (Damaged (Checkpoint c)) r why = accepted runs_join one x T (Damaged (Checkpoint c)) r why
+  recovered_is_accepted x T (Damaged (EntryAt k)) r why = λ refusal. why
+  recovered_is_accepted x T (Damaged (DataPage k)) r why = λ refusal. why
+  recovered_is_accepted x T (Damaged (Block b)) r why = λ refusal. why
+  recovered_is_accepted x T (Damaged (Record pos)) r why = accepted runs_join one x T (Damaged (Record pos)) r why
+  recovered_is_accepted x T (Damaged (Row row)) r why = λ refusal. rows_whole x T r why
+  recovered_is_accepted x T LogFull r why = λ refusal. refusal

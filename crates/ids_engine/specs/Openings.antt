@@ -1,9 +1,8 @@
 -- What opening makes of a disk: the store of the tables that were found, and why an image is refused.
-use Rattle.std.specs.Prelude.{◌≡◌, ◌≤◌, ◌⊎◌, ℕ, [], ◌++◌, Option, Some, None}
+use Rattle.std.specs.Prelude.{◌≡◌, ◌⊎◌, ℕ, [], ◌++◌, Option, Some, None}
 use Rattle.ids_base.specs.declared.status.Place.{Place}
 use Rattle.ids_base.specs.declared.status.Place.TheVariants.{Identity, Checkpoint, Entry as EntryAt, DataPage, Block, Record, Row}
 use Rattle.ids_outside.specs.Images.{Image}
-use Rattle.ids_outside.specs.Stops.{Only}
 use Rattle.chunk_map.specs.declared.layout.Layout.{Layout}
 use Rattle.chunk_map.specs.Formatted.{HasLayout}
 use Rattle.ids_model.specs.Tables.{Tables}
@@ -12,19 +11,18 @@ use Rattle.ids_model.specs.Stands.{IsWhole}
 use Rattle.fast_recovery.specs.Images.{log_in, Recovers}
 use Rattle.fast_recovery.specs.Order.{open_in, closing}
 use Rattle.fast_recovery.specs.LogRead.{OpenCause, IsDamagedAt}
-use Rattle.fast_recovery.specs.Opening.{IsRefusal}
+use Rattle.fast_recovery.specs.Opening.{IsSince, IsRefusal}
 use Rattle.fast_recovery.specs.declared.fault.OpenFault.{OpenFault}
 use Rattle.fast_recovery.specs.declared.fault.OpenFault.TheVariants.{Disk, Memory, NotFormatted, Damaged, LogFull}
 use Rattle.ids_engine.specs.Stores.{KeepsStore}
 use Rattle.ids_engine.specs.declared.store.Store.{Store}
 
--- The store that was made of a disk with the tables T: they are its own, and it keeps them from each moment on since the call began, where a stop left then but the
--- image that was read, or since it ended.
+-- The store that was made of a disk with the tables T: they are its own, and it keeps them from each moment on since the call began; from that of its beginning only
+-- where a stop could then leave nothing but the image that was read.
 pub record HasFound {D : Type 0} (tells : Type 0) (size : D → ℕ → ℕ) (now : D → ℕ) (image : D → Image) (can_leave : D → Image → Type 0) (left_at : D → ℕ → Image → Type 0)
     (store : Store) (old new : D) (T : Tables) : Type 0 where
   pub tables : T ≡ store.tables
-  pub keeps : (since : ℕ) → now old ≤ since → Only (image old) (can_leave old) ⊎ (now new ≤ since)
-      → KeepsStore tells size now image can_leave left_at since store.tables [] [] store new
+  pub keeps : (since : ℕ) → IsSince now image can_leave old since → KeepsStore tells size now image can_leave left_at since store.tables [] [] store new
 
 -- pages and rows are no well formed ones as the log leaves them, with a ROLLBACK of the transaction that is open at its end
 pub record HasRowsDamaged (x : Image) : Type 0 where

@@ -1,8 +1,9 @@
 //! Opening a store.
-ghost use Rattle.std.specs.Prelude.{◌≡◌, ◌≤◌, ℕ, [], Err, IfOk, IfErr};
+ghost use Rattle.std.specs.Prelude.{◌≡◌, ◌≤◌, ℕ, [], Err, IfOk, IfErr, OnOk};
 ghost use Rattle.ids_outside.specs.Counts.{Rose};
 ghost use Rattle.fast_recovery.specs.Images.{Recovers};
-ghost use Rattle.fast_recovery.specs.Opening.{TablesStay, IsRefusal};
+ghost use Rattle.fast_recovery.specs.Opening.{TablesStay, IsRefusal, WasFormatted};
+ghost use Rattle.chunk_map.specs.Formatted.{IsFormatted};
 ghost use Rattle.ids_model.specs.Tables.{Tables};
 ghost use Rattle.ids_engine.specs.Kept.{IsKept};
 ghost use Rattle.ids_engine.specs.Stores.{IsStore};
@@ -11,6 +12,7 @@ ghost use Rattle.ids_engine.specs.Openings.{HasFound, Refuses, RowsFault};
 use crate::store::Store;
 use chunk_map::laws::one_of_each;
 use fast_recovery::OpenFault;
+use fast_recovery::laws::broken_rows_are_not_whole;
 use fast_recovery::opening::open_log;
 use fast_recovery::replay::Replay;
 use fast_recovery::tables::{Found, TablesFault};
@@ -24,7 +26,8 @@ use std::alloc::Global;
 
 impl Store {
     /// Opens a disk: the store of the tables that its log stands for, after a ROLLBACK of the transaction that is open at its
-    /// end. A stop at any moment leaves the tables as they were.
+    /// end. A stop at any moment leaves the tables as they were; where something was pending as the call began, at any moment
+    /// behind that, unless the disk failed.
     ///
     /// Errors, in the order in which they are looked for: `NotFormatted` and `Damaged` as the identity page and the checkpoint
     /// pages say; `Damaged` also where the newest checkpoint is not the one that formatting writes, or a record of the log is
@@ -40,7 +43,9 @@ impl Store {
         ensures fresh { IfOk result (λ s. s.undo ≡ []) }
         ensures kept { IfOk result (λ s. (T : Tables) → D.tells → Recovers (D.image disk.old) T
             → HasFound D.tells D.size D.now D.image D.can_leave D.left_at s disk.old disk.new T) }
-        ensures any_moment { TablesStay D.now D.image D.can_leave D.left_at disk.old disk.new }
+        ensures any_moment { TablesStay D.now D.image D.can_leave D.left_at disk.old disk.new (¬ (result ≡ Err OpenFault.Disk)) }
+        ensures formatted { OnOk result (D.tells → IsFormatted (D.image disk.old)) }
+        ensures was_formatted { IfErr result (λ e. D.tells → WasFormatted (D.image disk.old) e) }
         ensures refused { IfErr result (λ e. D.tells → Refuses (D.image disk.old) e) }
         // An image from which tables are recovered is not refused.
         ensures accepts { IfErr result (λ e. D.tells → (T : Tables) → Recovers (D.image disk.old) T → ¬ IsRefusal e) }
@@ -77,6 +82,7 @@ fn tables_of(replay: &Replay) -> Result<Found, OpenFault>
     ensures kept { IfOk result (λ f. IsKept replay.now f.tables f.numbers f.greatest) }
     ensures fault { IfErr result (RowsFault replay.now) }
 {
+    broken_rows_are_not_whole();
     match replay.tables() {
         Ok(found) => Ok(found),
         Err(TablesFault::Memory) => Err(OpenFault::Memory),
