@@ -1,5 +1,5 @@
 -- The record of a change is in its place.
-use Rattle.std.proofs.Common.{◌≡◌, ℕ, ◌+◌, ◌*◌, ◌/◌, ◌%◌, ◌<◌, ◌≤◌, ◌==◌, ◌||◌, ◌&&◌, Bool, true, false, length, refl, ap, sym, ◌∙◌, subst, Option, Some, None, inl, inr, arith, eq-eqb, nat_le, nat_lt}
+use Rattle.std.proofs.Common.{◌≡◌, ℕ, ◌+◌, ◌/◌, ◌%◌, ◌≤◌, ◌==◌, ◌||◌, ◌&&◌, Bool, true, false, length, refl, sym, ◌∙◌, subst, Option, Some, None, inl, inr, arith, eq-eqb, nat_le, nat_lt}
 use Rattle.std.specs.Prelude.{◌^◌}
 use Rattle.std.specs.List.{list_all}
 use Rattle.std.proofs.lemmas.Bool.{le-leb}
