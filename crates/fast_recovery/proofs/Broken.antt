@@ -1,7 +1,6 @@
 -- Where a row is broken, pages and rows are no well formed ones.
-use Rattle.std.proofs.Common.{◌≡◌, ◌<◌, ℕ, ap, sym, ◌∙◌, Some, arith}
+use Rattle.std.proofs.Common.{◌≡◌, ◌<◌, ℕ, ap, sym, ◌∙◌, arith}
 use Rattle.ids_base.specs.RowIds.{page_of}
-use Rattle.ids_base.specs.Shapes.{row_length}
 use Rattle.row_codec.specs.Rows.{row_of}
 use Rattle.ids_model.specs.Tables.{Shape}
 use Rattle.ids_model.specs.Slots.{Own, Slots}

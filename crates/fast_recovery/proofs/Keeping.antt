@@ -1,5 +1,5 @@
 -- How the log is kept from the end of clearing on.
-use Rattle.std.proofs.Common.{◌≡◌, ◌⊎◌, inl, inr, ℕ, ◌<◌, ◌≤◌, List, [], ◌∷◌, ◌++◌, length, Some, None, refl, sym, ◌∙◌, ap, subst, arith}
+use Rattle.std.proofs.Common.{◌≡◌, ◌⊎◌, inl, inr, ℕ, ◌<◌, ◌≤◌, List, [], ◌∷◌, ◌++◌, Some, None, refl, sym, ◌∙◌, ap, subst, arith}
 use Rattle.std.specs.List.{AllByRecursion}
 use Rattle.std.proofs.lemmas.List.{append-nil}
 use Rattle.ids_outside.specs.Counts.{last_count}
@@ -12,7 +12,7 @@ use Rattle.log_files.specs.Log.{body_at}
 use Rattle.log_files.specs.Files.{Files, IsReady, IsRead, all_free}
 use Rattle.chunk_map.specs.declared.layout.Layout.{Layout}
 use Rattle.chunk_map.specs.Layouts.{IsLayout, HasPages}
-use Rattle.log_buffer.specs.Buffers.{Buffer, empty_at, waiting}
+use Rattle.log_buffer.specs.Buffers.{Buffer, empty_at}
 use Rattle.log_buffer.specs.Kept.{Flushed, HasLog, HoldsFlushed, KeepsLog, Outlives, tail_entries}
 use Rattle.fast_recovery.specs.Opening.{SameLog, IsSince, IsCounted, OnlyBehind, TablesStay, files_from}
 use Rattle.fast_recovery.specs.Images.{Recovers, log_region, log_in}

@@ -1,9 +1,9 @@
 -- The pages that have an owner have numbers of 24 bits.
-use Rattle.std.proofs.Common.{◌≡◌, ◌<◌, ◌^◌, ℕ, sym, ◌∙◌, subst, Some, ◌⊎◌, inl, inr}
+use Rattle.std.proofs.Common.{◌≡◌, ◌<◌, ◌^◌, ℕ, sym, ◌∙◌, subst, ◌⊎◌, inl, inr}
 use Rattle.std.specs.FinMap as map
 use Rattle.std.specs.FinMap.{get-empty}
 use Rattle.std.specs.Ordering.{nat_cmp}
-use Rattle.ids_model.specs.Slots.{Own, own_at, set_own}
+use Rattle.ids_model.specs.Slots.{Own, set_own}
 use Rattle.ids_model.proofs.Holding.{none_some}
 use Rattle.ids_model.proofs.Setting.{own_elsewhere, same_or_not}
 use Rattle.fast_recovery.specs.Pages.{ArePages}

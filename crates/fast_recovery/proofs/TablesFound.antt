@@ -1,5 +1,5 @@
 -- The tables that are found, their numbers, and the greatest of these; or the row that is broken.
-use Rattle.std.proofs.Common.{◌≡◌, ℕ, ◌≤◌, max, true, false, sym, subst, [], Some, arith}
+use Rattle.std.proofs.Common.{◌≡◌, ℕ, ◌≤◌, max, true, false, subst, [], Some, arith}
 use Rattle.std.specs.FinMap as map
 use Rattle.ids_base.specs.RowIds.{row_number}
 use Rattle.ids_model.specs.Tables.{Tables}

@@ -1,6 +1,7 @@
 -- How the history of a session goes on: by a BEGIN, a change, and a COMMIT or ROLLBACK.
 use Rattle.std.proofs.Common.{◌≡◌, ℕ, ◌+◌, true, false, Bool, refl, ap, sym, ◌∙◌, subst, List, [], ◌∷◌, ◌++◌, length, Option, Some, None, append_assoc, inl, inr, arith, length-append}
 use Rattle.std.specs.Prelude.{if◌then◌else◌}
+use Rattle.std.specs.FinMap.{empty}
 use Rattle.std.proofs.lemmas.List.{append-nil}
 use Rattle.std.proofs.lemmas.List.Concat.{flat_map-append}
 use Rattle.chunk_map.specs.declared.layout.Layout.{Layout}
@@ -8,12 +9,16 @@ use Rattle.log_records.specs.Entries.{Entry, Begin, Commit, Rollback}
 use Rattle.log_buffer.specs.Kept.{Flushed}
 use Rattle.ids_model.specs.declared.effect.Effect.{Effect}
 use Rattle.ids_model.specs.Tables.{Tables, apply_all}
-use Rattle.ids_model.specs.Recovered.{State, run}
+use Rattle.ids_model.specs.Slots.{Own, own_all}
+use Rattle.ids_model.specs.Recovered.{State, nothing, run, owns}
 use Rattle.ids_model.specs.Logged.{Makes, MakesAll, Logged, records_of, log_of, after_one, tables_after}
 use Rattle.ids_model.proofs.TakingBack.{runs_join}
 use Rattle.ids_model.proofs.LogsStand.{changes_go_on, logs_go_on}
+use Rattle.fast_recovery.specs.Images.{page_count}
+use Rattle.fast_recovery.specs.InPlace.{in_place, all_in_place}
+use Rattle.fast_recovery.proofs.Placed.{places-one, places-append}
 use Rattle.ids_engine.specs.Survival.{Done, tables_from}
-use Rattle.ids_engine.specs.Stores.{History, entries_of, state_of, HasMark, IsMarked, IsDone, AreDone, IsHistory}
+use Rattle.ids_engine.specs.Stores.{History, under_way, entries_of, state_of, HasMark, IsMarked, IsDone, AreDone, IsHistory}
 
 -- More marks.
 
@@ -82,10 +87,29 @@ tables_same n T (t ∷ ts) ds marks done =
     next_same t.is_committed next T t ts ds marks (λ es. AreDone next ts es marks) refl done (λ U es behind. tables_same next U ts es marks behind)
 
 module _ (tells : Type 0) (l : Layout) (found : Tables) (ds : List Done) (effects : List Effect) (h : History) where
+  -- the owners of pages after all records
+  owners_now : tells → (current : Option ℕ) → IsHistory tells l found ds effects current h → (state_of h current).own ≡ own_all empty (owns (h.before ++ entries_of h current))
+  owners_now told current is =
+      let since : List Entry = log_of h.logged ++ under_way current h.changes in
+      ap (λ (s : State). (run s since).own) (is.began told) ∙ ap (λ (s : State). s.own) (sym (runs_join nothing (h.before ++ h.closing) since))
+      ∙ ap (λ (es : List Entry). own_all empty (owns es)) (append_assoc h.before h.closing since)
+
+  -- one more record, in its place
+  one_more : tells → (current : Option ℕ) (e : Entry) (es : List Entry) → IsHistory tells l found ds effects current h → entries_of h current ++ e ∷ [] ≡ es
+      → in_place (page_count l) (own_all empty (owns (h.before ++ entries_of h current))) e ≡ true → all_in_place (page_count l) empty (h.before ++ es) ≡ true
+  one_more told current e es is same here =
+      let all : List Entry = h.before ++ entries_of h current in
+      ap (all_in_place (page_count l) empty) (sym (append_assoc h.before (entries_of h current) (e ∷ []) ∙ ap (λ (x : List Entry). h.before ++ x) same))
+      ∙ places-append runs_join (page_count l) empty all (e ∷ []) (is.placed told) (places-one (page_count l) (own_all empty (owns all)) e here)
+
   -- BEGIN
 
   abbrev pub begun : List Flushed → History
   begun more = record h { changes = []; marks = h.marks ++ more }
+
+  pub begun_entries : (tx : ℕ) (more : List Flushed) → entries_of h None ++ Begin tx 1 ∷ [] ≡ entries_of (begun more) (Some tx)
+  begun_entries tx more =
+      append_assoc h.closing (log_of h.logged ++ []) (Begin tx 1 ∷ []) ∙ ap (λ (es : List Entry). h.closing ++ (es ++ Begin tx 1 ∷ [])) (append-nil (log_of h.logged))
 
   pub begins : (tx : ℕ) (more : List Flushed) → IsHistory tells l found ds effects None h → IsHistory tells l found ds effects (Some tx) (begun more)
   begins tx more is = record {
@@ -93,16 +117,13 @@ module _ (tells : Type 0) (l : Layout) (found : Tables) (ds : List Done) (effect
     log = is.log;
     closes = is.closes;
     in_order = is.in_order;
+    placed = λ told. one_more told None (Begin tx 1) (entries_of (begun more) (Some tx)) is (begun_entries tx more) refl;
     began = is.began;
     quiet = is.quiet;
     logs = is.logs;
     all_done = done_more (length h.closing) h.logged ds h.marks more is.all_done;
     makes = subst (λ (fs : List Effect). MakesAll (run h.start (log_of h.logged)) (tables_after found h.logged) tx [] fs) (sym is.makes) tt;
   }
-
-  pub begun_entries : (tx : ℕ) (more : List Flushed) → entries_of h None ++ Begin tx 1 ∷ [] ≡ entries_of (begun more) (Some tx)
-  begun_entries tx more =
-      append_assoc h.closing (log_of h.logged ++ []) (Begin tx 1 ∷ []) ∙ ap (λ (es : List Entry). h.closing ++ (es ++ Begin tx 1 ∷ [])) (append-nil (log_of h.logged))
 
   pub begun_state : (tx : ℕ) (more : List Flushed) → run (state_of h None) (Begin tx 1 ∷ []) ≡ state_of (begun more) (Some tx)
   begun_state tx more =
@@ -113,13 +134,18 @@ module _ (tells : Type 0) (l : Layout) (found : Tables) (ds : List Done) (effect
   abbrev pub grown : Entry → List Flushed → History
   grown e more = record h { changes = h.changes ++ e ∷ []; marks = h.marks ++ more }
 
-  pub changes : (tx : ℕ) (e : Entry) (f : Effect) (more : List Flushed) → IsHistory tells l found ds effects (Some tx) h → Makes (state_of h (Some tx)) (apply_all (tables_from found ds) effects) tx e f
+  pub grown_entries : (tx : ℕ) (e : Entry) (more : List Flushed) → entries_of h (Some tx) ++ e ∷ [] ≡ entries_of (grown e more) (Some tx)
+  grown_entries tx e more =
+      append_assoc h.closing (log_of h.logged ++ Begin tx 1 ∷ h.changes) (e ∷ []) ∙ ap (λ (es : List Entry). h.closing ++ es) (append_assoc (log_of h.logged) (Begin tx 1 ∷ h.changes) (e ∷ []))
+
+  pub changes : (tx : ℕ) (e : Entry) (f : Effect) (more : List Flushed) → IsHistory tells l found ds effects (Some tx) h → in_place (page_count l) (state_of h (Some tx)).own e ≡ true → Makes (state_of h (Some tx)) (apply_all (tables_from found ds) effects) tx e f
       → IsHistory tells l found ds (effects ++ f ∷ []) (Some tx) (grown e more)
-  changes tx e f more is makes = record {
+  changes tx e f more is placed makes = record {
     empty_base = is.empty_base;
     log = is.log;
     closes = is.closes;
     in_order = is.in_order;
+    placed = λ told. one_more told (Some tx) e (entries_of (grown e more) (Some tx)) is (grown_entries tx e more) (ap (λ (o : Own). in_place (page_count l) o e) (sym (owners_now told (Some tx) is)) ∙ placed);
     began = is.began;
     quiet = is.quiet;
     logs = is.logs;
@@ -128,10 +154,6 @@ module _ (tells : Type 0) (l : Layout) (found : Tables) (ds : List Done) (effect
         (subst (λ (s : State). Makes s (apply_all (tables_after found h.logged) effects) tx e f) (runs_join h.start (log_of h.logged) (Begin tx 1 ∷ h.changes))
         (subst (λ (T : Tables). Makes (state_of h (Some tx)) (apply_all T effects) tx e f) (sym (tables_same (length h.closing) found h.logged ds h.marks is.all_done)) makes));
   }
-
-  pub grown_entries : (tx : ℕ) (e : Entry) (more : List Flushed) → entries_of h (Some tx) ++ e ∷ [] ≡ entries_of (grown e more) (Some tx)
-  grown_entries tx e more =
-      append_assoc h.closing (log_of h.logged ++ Begin tx 1 ∷ h.changes) (e ∷ []) ∙ ap (λ (es : List Entry). h.closing ++ es) (append_assoc (log_of h.logged) (Begin tx 1 ∷ h.changes) (e ∷ []))
 
   pub grown_state : (tx : ℕ) (e : Entry) (more : List Flushed) → run (state_of h (Some tx)) (e ∷ []) ≡ state_of (grown e more) (Some tx)
   grown_state tx e more =
@@ -164,6 +186,10 @@ module _ (tells : Type 0) (l : Layout) (found : Tables) (ds : List Done) (effect
   ended_state committed tx more =
       sym (runs_join h.start (log_of h.logged ++ Begin tx 1 ∷ h.changes) (ending committed tx ∷ [])) ∙ ap (run h.start) (joined committed tx)
 
+  ending_placed : (pages : ℕ) (own : Own) (tx : ℕ) (committed : Bool) → in_place pages own (ending committed tx) ≡ true
+  ending_placed pages own tx true = refl
+  ending_placed pages own tx false = refl
+
   ends : (committed : Bool) (tx : ℕ) (es : List Done) (more : List Flushed) → IsHistory tells l found ds effects (Some tx) h
       → AreDone (length h.closing + length (log_of h.logged)) (whole committed tx ∷ []) es (h.marks ++ more) → IsHistory tells l found (ds ++ es) [] None (ended committed tx more)
   ends committed tx es more is last = record {
@@ -171,6 +197,7 @@ module _ (tells : Type 0) (l : Layout) (found : Tables) (ds : List Done) (effect
     log = is.log;
     closes = is.closes;
     in_order = is.in_order;
+    placed = λ told. one_more told (Some tx) (ending committed tx) (entries_of (ended committed tx more) None) is (ended_entries committed tx more) (ending_placed (page_count l) (own_all empty (owns (h.before ++ entries_of h (Some tx)))) tx committed);
     began = is.began;
     quiet = is.quiet;
     logs = logs_go_on h.start found h.logged (whole committed tx) is.logs is.makes;

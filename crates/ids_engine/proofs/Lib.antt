@@ -1,5 +1,6 @@
 pub mod Zeros
 pub mod Places
+pub mod PlacedRecords
 pub mod RowSizes
 pub mod Inserted
 pub mod Deleted

@@ -1,5 +1,7 @@
 -- The store that is made of an opened disk.
-use Rattle.std.proofs.Common.{◌≡◌, ℕ, ◌+◌, ◌*◌, ◌≤◌, refl, ap, sym, ◌∙◌, subst, List, [], ◌++◌, length, Option, Some, None, arith}
+use Rattle.std.proofs.Common.{◌≡◌, inl, inr, ℕ, ◌+◌, ◌*◌, ◌≤◌, true, refl, ap, sym, ◌∙◌, subst, List, [], ◌++◌, length, Option, Some, None, arith}
+use Rattle.std.specs.List.{AllByRecursion}
+use Rattle.std.specs.FinMap.{empty}
 use Rattle.std.proofs.lemmas.List.{append-nil}
 use Rattle.ids_outside.specs.Images.{Image}
 use Rattle.chunk_map.specs.Layouts.{IsLayout}
@@ -7,16 +9,20 @@ use Rattle.log_records.specs.Entries.{Entry}
 use Rattle.log_buffer.specs.Buffers.{Buffer, empty_at}
 use Rattle.log_buffer.specs.Kept.{Flushed, tail_entries, HasLog, KeepsLog}
 use Rattle.ids_model.specs.Tables.{Tables}
-use Rattle.ids_model.specs.Recovered.{State, nothing, run, seen, all_taken_back}
-use Rattle.ids_model.specs.Slots.{Slots, assign}
+use Rattle.ids_model.specs.Recovered.{State, nothing, run, seen, owns, all_taken_back}
+use Rattle.ids_model.specs.Slots.{Slots, assign, own_all}
 use Rattle.ids_model.specs.Stands.{Stands}
 use Rattle.ids_model.specs.Logged.{StandsWhole, IsRecovered}
 use Rattle.ids_model.specs.RecoveryLaws.{RunsJoin, RollbacksAreSeen, TablesAreOne}
-use Rattle.fast_recovery.specs.Images.{HasEmptyBase, log_in}
+use Rattle.fast_recovery.specs.Images.{HasEmptyBase, log_in, page_count}
 use Rattle.fast_recovery.specs.Order.{open_in, closing}
+use Rattle.fast_recovery.specs.InPlace.{all_in_place}
+use Rattle.fast_recovery.specs.Paged.{IsPaged}
+use Rattle.fast_recovery.specs.PagedStates.{IsPagedChange}
 use Rattle.fast_recovery.specs.Opening.{IsOpened, IsCounted, TablesStay}
 use Rattle.fast_recovery.specs.declared.opening.Opened.{Opened}
 use Rattle.fast_recovery.proofs.OrderFronts.{open_in-closed}
+use Rattle.fast_recovery.proofs.Placed.{places-append, places-closing}
 use Rattle.fast_recovery.proofs.SeenTables.{front-recovers}
 use Rattle.ids_engine.specs.Kept.{IsKept}
 use Rattle.ids_engine.specs.Stores.{History, IsHistory, IsLogFor, KeepsStore, IsStore, entries_of, state_of}
@@ -36,7 +42,7 @@ opened_log o is within = record {
 }
 
 module _ (s : Store) (idle : s.current ≡ None) (none : s.undo ≡ []) (ranges : IsLayout s.layout) (log_is : IsLogFor s.layout s.files s.buffer) (quiet : s.replay.standing ≡ [])
-    (memory : IsKept s.replay s.tables s.numbers s.greatest) where
+    (paged : IsPaged (page_count s.layout) s.replay.own s.replay.slots) (memory : IsKept s.replay s.tables s.numbers s.greatest) where
   -- what was found stands in the slots
   seen_now : (T : Tables) → Stands s.replay.own (seen s.replay) T → Stands s.replay.own s.replay.slots T
   seen_now T = subst (λ (slots : Slots). Stands s.replay.own slots T) (ap (λ cs. assign s.replay.slots (all_taken_back cs)) quiet)
@@ -55,16 +61,18 @@ module _ (s : Store) (idle : s.current ≡ None) (none : s.undo ≡ []) (ranges 
         → (tells → HasEmptyBase s.layout base) → (tells → log_in s.layout base ≡ before)
         → (tells → (front rest : List Entry) → closes ≡ front ++ rest → IsRecovered (before ++ front) s.tables)
         → (tells → open_in None (before ++ closes) ≡ Some None)
+        → (tells → all_in_place (page_count s.layout) empty (before ++ closes) ≡ true)
         → (tells → s.replay ≡ run nothing (before ++ closes))
         → KeepsLog size now image can_leave left_at since base before closes marks s.files s.buffer disk
         → KeepsStore tells size now image can_leave left_at since s.tables [] [] s disk
-    fresh_keeps tells since base before closes marks empty log_of_base recovers order began keeps =
+    fresh_keeps tells since base before closes marks blank log_of_base recovers order placed began keeps =
         let h : History = record { base = base; before = before; closing = closes; start = s.replay; logged = []; changes = []; marks = marks } in
         let holds : IsHistory tells s.layout s.tables [] [] None h = record {
-          empty_base = empty;
+          empty_base = blank;
           log = log_of_base;
           closes = recovers;
           in_order = order;
+          placed = λ told. ap (λ (es : List Entry). all_in_place (page_count s.layout) empty (before ++ es)) (append-nil closes) ∙ placed told;
           began = began;
           quiet = record { none = quiet; stands = memory.stands };
           logs = tt;
@@ -82,18 +90,23 @@ module _ (s : Store) (idle : s.current ≡ None) (none : s.undo ≡ []) (ranges 
           replay = ap (state_of h) (sym idle);
           tables = refl;
           undo = none;
+          paged = record { stands = paged; taken_out = subst (AllByRecursion (IsPagedChange s.replay.own)) (sym quiet) tt };
           memory = memory;
         }
 
     -- on a disk that tells its bytes
     pub found_keeps : (tells : Type 0) → RunsJoin → RollbacksAreSeen → (since : ℕ) (x : Image) (last : Option ℕ) (marks : List Flushed)
-        → HasEmptyBase s.layout x → IsRecovered (log_in s.layout x) s.tables → open_in None (log_in s.layout x) ≡ Some last → s.replay ≡ run nothing (log_in s.layout x ++ closing last)
+        → HasEmptyBase s.layout x → IsRecovered (log_in s.layout x) s.tables → open_in None (log_in s.layout x) ≡ Some last → all_in_place (page_count s.layout) empty (log_in s.layout x) ≡ true
+        → s.replay ≡ run nothing (log_in s.layout x ++ closing last)
         → KeepsLog size now image can_leave left_at since x (log_in s.layout x) (closing last) marks s.files s.buffer disk
         → KeepsStore tells size now image can_leave left_at since s.tables [] [] s disk
-    found_keeps tells join rolls since x last marks base recovered order replay keeps =
+    found_keeps tells join rolls since x last marks base recovered order placed replay keeps =
         fresh_keeps tells since x (log_in s.layout x) (closing last) marks (λ told. base) (λ told. refl)
         (λ told front rest parts. front-recovers join rolls (log_in s.layout x) front rest last s.tables order parts recovered)
-        (λ told. open_in-closed last (log_in s.layout x) order) (λ told. replay) keeps
+        (λ told. open_in-closed last (log_in s.layout x) order)
+        (λ told. places-append join (page_count s.layout) empty (log_in s.layout x) (closing last) placed
+        (places-closing join (page_count s.layout) (own_all empty (owns (log_in s.layout x))) last (closing last) [] (sym (append-nil (closing last)))))
+        (λ told. replay) keeps
 
     -- on any disk
     pub sound_opening : (tells : Type 0) (x : Image) → s.buffer ≡ empty_at s.files.next → ((c : Image) → can_leave disk c → tells) → (tells → can_leave disk (image disk))
@@ -113,7 +126,7 @@ module _ (s : Store) (idle : s.current ≡ None) (none : s.undo ≡ []) (ranges 
           found = s.tables;
           done = [];
           effects = [];
-          keeps = fresh_keeps ⊥ (now disk) x before [] [] (λ no. absurd no) (λ no. absurd no) (λ no. absurd no) (λ no. absurd no) (λ no. absurd no)
+          keeps = fresh_keeps ⊥ (now disk) x before [] [] (λ no. absurd no) (λ no. absurd no) (λ no. absurd no) (λ no. absurd no) (λ no. absurd no) (λ no. absurd no)
               (subst (λ (b : Buffer). KeepsLog size now image can_leave left_at (now disk) x before [] [] s.files b disk) (sym buffer) keeps);
         }
 

@@ -14,6 +14,8 @@ use Rattle.ids_model.specs.Logged.{Makes, MakesAll, IsQuiet, IsOpen, log_of, tab
 use Rattle.ids_model.proofs.TakingBack.{runs_join}
 use Rattle.ids_model.proofs.OpenTransactions.{quiet_is_open}
 use Rattle.ids_model.proofs.LogsStand.{changes_open, logs_stand}
+use Rattle.fast_recovery.specs.Images.{page_count}
+use Rattle.fast_recovery.specs.KeepingPages.{RecordsKeepPages}
 use Rattle.ids_engine.specs.Survival.{Done, tables_from}
 use Rattle.ids_engine.specs.Stores.{History, entries_of, state_of, IsHistory, IsLogFor, KeepsStore}
 use Rattle.ids_engine.specs.declared.store.Store.{Store}
@@ -75,11 +77,11 @@ module _ {D : Type 0} (tells : Type 0) (size : D → ℕ → ℕ) (now : D → �
       ap (λ (fs : List Effect). undo_all s.tables fs) k.undo ∙ ap (λ (T : Tables). undo_all T effects) k.tables
       ∙ law before effects (all-past (run h.start (log_of h.logged)) before tx h.changes effects makes)
 
-  rollback-keeps : (files : Files) (buffer : Buffer) (disk : D) → IsLogFor s.layout files buffer
+  rollback-keeps : RecordsKeepPages → (files : Files) (buffer : Buffer) (disk : D) → IsLogFor s.layout files buffer
       → ((more : List Flushed) × KeepsLog size now image can_leave left_at since h.base h.before (entries_of h s.current ++ Rollback tx ∷ []) (h.marks ++ more) files buffer disk)
       → KeepsStore tells size now image can_leave left_at since found ds []
       (record s { files = files; buffer = buffer; replay = run s.replay (Rollback tx ∷ []); tables = before; current = None; undo = [] }) disk
-  rollback-keeps files buffer disk log on =
+  rollback-keeps pages files buffer disk log on =
       let h' : History = ended tells s.layout found ds effects h false tx on.0 in
       record {
         history = h';
@@ -92,17 +94,18 @@ module _ {D : Type 0} (tells : Type 0) (size : D → ℕ → ℕ) (now : D → �
         replay = state_as tells size now image can_leave left_at since found ds effects s d k (Some tx) (Rollback tx) is ∙ ended_state tells s.layout found ds effects h false tx on.0;
         tables = refl;
         undo = refl;
+        paged = pages (page_count s.layout) s.replay (Rollback tx) k.paged refl tt;
         memory = rolled-back s.replay tx before s.tables s.numbers s.greatest opened k.memory;
       }
 
   -- the same, of the store that the call makes
-  pub rolled-keeps : UndoneAreBack → (T : Tables) (undo : List Effect) (new : Store) (disk : D) → T ≡ undo_all s.tables s.undo → undo ≡ []
+  pub rolled-keeps : UndoneAreBack → RecordsKeepPages → (T : Tables) (undo : List Effect) (new : Store) (disk : D) → T ≡ undo_all s.tables s.undo → undo ≡ []
       → new ≡ record s { files = new.files; buffer = new.buffer; replay = new.replay; tables = T } → new.replay ≡ run s.replay (Rollback tx ∷ []) → IsLogFor s.layout new.files new.buffer
       → ((more : List Flushed) × KeepsLog size now image can_leave left_at since h.base h.before (entries_of h s.current ++ Rollback tx ∷ []) (h.marks ++ more) new.files new.buffer disk)
       → KeepsStore tells size now image can_leave left_at since found ds [] (record new { current = None; undo = undo }) disk
-  rolled-keeps law T undo new disk undone none put replay log on =
+  rolled-keeps law pages T undo new disk undone none put replay log on =
       let after : Store = record s { files = new.files; buffer = new.buffer; replay = run s.replay (Rollback tx ∷ []); tables = before; current = None; undo = [] } in
       let same : record new { current = None; undo = undo } ≡ after =
       ap (λ (x : Store). let t : Store = record x { current = None; undo = undo } in t) put
       ∙ (λ i. let t : Store = record s { files = new.files; buffer = new.buffer; replay = replay i; tables = (undone ∙ back law) i; current = None; undo = none i } in t) in
-      subst (λ (x : Store). KeepsStore tells size now image can_leave left_at since found ds [] x disk) (sym same) (rollback-keeps new.files new.buffer disk log on)
+      subst (λ (x : Store). KeepsStore tells size now image can_leave left_at since found ds [] x disk) (sym same) (rollback-keeps pages new.files new.buffer disk log on)

@@ -14,7 +14,10 @@ use Rattle.ids_model.specs.Tables.{Tables, apply, apply_all}
 use Rattle.ids_model.specs.Recovered.{State, run}
 use Rattle.ids_model.specs.Logged.{Makes}
 use Rattle.fast_recovery.specs.Found.{Numbers}
-use Rattle.fast_recovery.specs.Images.{Recovers}
+use Rattle.fast_recovery.specs.Images.{page_count, Recovers}
+use Rattle.fast_recovery.specs.InPlace.{in_place}
+use Rattle.fast_recovery.specs.PagedStates.{IsPagedState}
+use Rattle.fast_recovery.specs.KeepingPages.{RecordsKeepPages}
 use Rattle.log_records.specs.Says.{entry_of}
 use Rattle.log_records.specs.declared.record.Record as log
 use Rattle.ids_engine.specs.Kept.{IsKept, KeptByRecords, numbers_after, greatest_after}
@@ -28,6 +31,7 @@ use Rattle.ids_engine.specs.declared.store.Store.{Store}
 use Rattle.ids_engine.specs.declared.store.StoreFault.{StoreFault}
 use Rattle.ids_engine.specs.declared.store.StoreFault.TheVariants as faults
 use Rattle.ids_engine.proofs.Growing.{begun, begins, begun_entries, begun_state, grown, changes, grown_entries, grown_state, ended, commits, ended_entries, ended_state, mark_last}
+use Rattle.ids_engine.proofs.PlacedRecords.{StandsInPlace}
 use Rattle.ids_engine.proofs.Putting.{log_for, ends_within}
 use Rattle.ids_engine.proofs.Surviving.{outlives_survives}
 
@@ -65,6 +69,7 @@ on_any_disk tells l found ds effects current h is = record {
   log = λ no. absurd no;
   closes = λ no. absurd no;
   in_order = λ no. absurd no;
+  placed = λ no. absurd no;
   began = λ no. absurd no;
   quiet = is.quiet;
   logs = is.logs;
@@ -149,19 +154,22 @@ module _ {D : Type 0} (tells : Type 0) (size : D → ℕ → ℕ) (now : D → �
     replay = state_as None (Begin tx 1) is ∙ begun_state tells s.layout found ds effects h tx on.0;
     tables = k.tables;
     undo = k.undo;
+    paged = k.paged;
     memory = k.memory;
   }
 
   -- a change
   pub change_keeps : (tx : ℕ) (e : Entry) (f : Effect) (numbers : Numbers) (greatest : ℕ) (files : Files) (buffer : Buffer) (disk : D) → s.current ≡ Some tx → Makes s.replay s.tables tx e f
+      → in_place (page_count s.layout) s.replay.own e ≡ true → IsPagedState (page_count s.layout) (run s.replay (e ∷ []))
       → IsKept (run s.replay (e ∷ [])) (apply s.tables f) numbers greatest → IsLogFor s.layout files buffer
       → ((more : List Flushed) × Logs (entries_of h s.current ++ e ∷ []) (h.marks ++ more) files buffer disk)
       → KeepsStore tells size now image can_leave left_at since found ds (effects ++ f ∷ [])
       (record s { files = files; buffer = buffer; replay = run s.replay (e ∷ []); tables = apply s.tables f; numbers = numbers; greatest = greatest; undo = s.undo ++ f ∷ [] }) disk
-  change_keeps tx e f numbers greatest files buffer disk is makes memory log on = record {
+  change_keeps tx e f numbers greatest files buffer disk is makes placed paged memory log on = record {
     history = grown tells s.layout found ds effects h e on.0;
     holds = subst (λ (o : Option ℕ). IsHistory tells s.layout found ds (effects ++ f ∷ []) o (grown tells s.layout found ds effects h e on.0)) (sym is)
         (changes tells s.layout found ds effects h tx e f on.0 (holds_as (Some tx) is)
+        (subst (λ (x : State). in_place (page_count s.layout) x.own e ≡ true) (k.replay ∙ ap (state_of h) is) placed)
         (subst (λ (x : State). Makes x (apply_all (tables_from found ds) effects) tx e f) (k.replay ∙ ap (state_of h) is) (subst (λ (T : Tables). Makes s.replay T tx e f) k.tables makes)));
     kept = subst (λ (es : List Entry). Logs es (h.marks ++ on.0) files buffer disk)
         (entries_as (Some tx) e is ∙ grown_entries tells s.layout found ds effects h tx e on.0 ∙ ap (entries_of (grown tells s.layout found ds effects h e on.0)) (sym is)) on.1;
@@ -171,12 +179,13 @@ module _ {D : Type 0} (tells : Type 0) (size : D → ℕ → ℕ) (now : D → �
     replay = state_as (Some tx) e is ∙ grown_state tells s.layout found ds effects h tx e on.0 ∙ ap (state_of (grown tells s.layout found ds effects h e on.0)) (sym is);
     tables = ap (λ (T : Tables). apply T f) k.tables ∙ sym (apply_then (tables_from found ds) effects f);
     undo = ap (λ (fs : List Effect). fs ++ f ∷ []) k.undo;
+    paged = paged;
     memory = memory;
   }
 
   -- a change by a record that was found where nothing but a BEGIN had come since
-  pub placed_keeps : (old : Store) (placed : Placed) (tx : ℕ) (r : log.Record) (f : Effect) (files : Files) (buffer : Buffer) (disk : D) → KeptByRecords → SameTables old s → s.current ≡ Some tx
-      → placed ≡ Record r → MakesIt old.replay old.tables tx f placed → GivesNumber (old.greatest + 1) f placed → IsOneChange f → IsLogFor s.layout files buffer
+  pub placed_keeps : (old : Store) (placed : Placed) (tx : ℕ) (r : log.Record) (f : Effect) (files : Files) (buffer : Buffer) (disk : D) → KeptByRecords → RecordsKeepPages → SameTables old s → s.current ≡ Some tx
+      → placed ≡ Record r → MakesIt old.replay old.tables tx f placed → StandsInPlace old (entry_of r) → GivesNumber (old.greatest + 1) f placed → IsOneChange f → IsLogFor s.layout files buffer
       → ((more : List Flushed) × Logs (entries_of h s.current ++ entry_of r ∷ []) (h.marks ++ more) files buffer disk)
       → KeepsStore tells size now image can_leave left_at since found ds (effects ++ f ∷ [])
       (record s {
@@ -188,20 +197,24 @@ module _ {D : Type 0} (tells : Type 0) (size : D → ℕ → ℕ) (now : D → �
         greatest = greatest_after s.greatest f;
         undo = s.undo ++ f ∷ [];
       }) disk
-  placed_keeps old placed tx r f files buffer disk law same is found_is makes number new log_is on =
+  placed_keeps old placed tx r f files buffer disk law pages same is found_is makes stands number new log_is on =
       let made : Makes old.replay old.tables tx (entry_of r) f = subst (MakesIt old.replay old.tables tx f) found_is makes in
       let here : Makes s.replay s.tables tx (entry_of r) f =
       subst (λ (x : State). Makes x s.tables tx (entry_of r) f) (sym same.replay) (subst (λ (T : Tables). Makes old.replay T tx (entry_of r) f) (sym same.tables) made) in
       let numbered : SaysNumber (s.greatest + 1) f r = subst (λ (n : ℕ). SaysNumber (n + 1) f r) (sym same.greatest) (subst (GivesNumber (old.greatest + 1) f) found_is number) in
+      let there : in_place (page_count s.layout) s.replay.own (entry_of r) ≡ true =
+      subst (λ (l : Layout). in_place (page_count l) s.replay.own (entry_of r) ≡ true) (sym same.layout)
+      (subst (λ (x : State). in_place (page_count old.layout) x.own (entry_of r) ≡ true) (sym same.replay) stands.place) in
       change_keeps tx (entry_of r) f (numbers_after s.numbers s.greatest f) (greatest_after s.greatest f) files buffer disk is here
+      there (pages (page_count s.layout) s.replay (entry_of r) k.paged there stands.ranges)
       (law s.replay s.tables s.numbers s.greatest tx r f k.memory new here numbered) log_is on
 
   -- a COMMIT, and a flush
-  pub commit_keeps : (tx : ℕ) (more : List Flushed) (files : Files) (buffer : Buffer) (disk : D) → s.current ≡ Some tx → IsLogFor s.layout files buffer
+  pub commit_keeps : (tx : ℕ) (more : List Flushed) (files : Files) (buffer : Buffer) (disk : D) → RecordsKeepPages → s.current ≡ Some tx → IsLogFor s.layout files buffer
       → Logs (entries_of h s.current ++ Commit tx ∷ []) ((h.marks ++ more) ++ record { at = now disk; count = length (entries_of h s.current ++ Commit tx ∷ []) } ∷ []) files buffer disk
       → KeepsStore tells size now image can_leave left_at since found (ds ++ record { effects = effects; flushed = Some (now disk) } ∷ []) []
       (record s { files = files; buffer = buffer; replay = run s.replay (Commit tx ∷ []); current = None; undo = [] }) disk
-  commit_keeps tx more files buffer disk is log on =
+  commit_keeps tx more files buffer disk pages is log on =
       let last : Flushed = record { at = now disk; count = length (entries_of h s.current ++ Commit tx ∷ []) } in
       let marks : (h.marks ++ more) ++ last ∷ [] ≡ h.marks ++ (more ++ last ∷ []) = append_assoc h.marks more (last ∷ []) in
       let counted : length (entries_of h s.current ++ Commit tx ∷ []) ≡ length (entries_of h (Some tx) ++ Commit tx ∷ []) = ap length (entries_as (Some tx) (Commit tx) is) in
@@ -219,6 +232,7 @@ module _ {D : Type 0} (tells : Type 0) (size : D → ℕ → ℕ) (now : D → �
         replay = state_as (Some tx) (Commit tx) is ∙ ended_state tells s.layout found ds effects h true tx (more ++ last ∷ []);
         tables = k.tables ∙ sym (tables_then found ds d');
         undo = refl;
+        paged = pages (page_count s.layout) s.replay (Commit tx) k.paged refl tt;
         memory = record { stands = k.memory.stands; numbered = k.memory.numbered; no_greater = k.memory.no_greater };
       }
 
@@ -235,14 +249,14 @@ module _ {D : Type 0} (tells : Type 0) (size : D → ℕ → ℕ) (now : D → �
       ∙ ap (λ (x : State). let t : Store = record s { files = new.files; buffer = new.buffer; replay = x; last_tx = tx; current = Some tx } in t) replay in
       subst (λ (x : Store). KeepsStore tells size now image can_leave left_at since found ds effects x disk) (sym same) (begin_keeps tx new.files new.buffer disk is log on)
 
-  pub changed_keeps : (old : Store) (placed : Placed) (tx : ℕ) (r : log.Record) (f : Effect) (new last : Store) (disk : D) → KeptByRecords → SameTables old s → s.current ≡ Some tx
-      → placed ≡ Record r → MakesIt old.replay old.tables tx f placed → GivesNumber (old.greatest + 1) f placed → IsOneChange f
+  pub changed_keeps : (old : Store) (placed : Placed) (tx : ℕ) (r : log.Record) (f : Effect) (new last : Store) (disk : D) → KeptByRecords → RecordsKeepPages → SameTables old s → s.current ≡ Some tx
+      → placed ≡ Record r → MakesIt old.replay old.tables tx f placed → StandsInPlace old (entry_of r) → GivesNumber (old.greatest + 1) f placed → IsOneChange f
       → new ≡ record s { files = new.files; buffer = new.buffer; replay = new.replay } → new.replay ≡ run s.replay (entry_of r ∷ [])
       → last ≡ record new { tables = apply new.tables f; numbers = numbers_after new.numbers new.greatest f; greatest = greatest_after new.greatest f; undo = new.undo ++ f ∷ [] }
       → IsLogFor s.layout new.files new.buffer
       → ((more : List Flushed) × Logs (entries_of h s.current ++ entry_of r ∷ []) (h.marks ++ more) new.files new.buffer disk)
       → KeepsStore tells size now image can_leave left_at since found ds (effects ++ f ∷ []) last disk
-  changed_keeps old placed tx r f new last disk law same is found_is makes number new_row put replay last_is log_is on =
+  changed_keeps old placed tx r f new last disk law pages same is found_is makes stands number new_row put replay last_is log_is on =
       let after : last ≡ record s {
         files = new.files;
         buffer = new.buffer;
@@ -256,15 +270,15 @@ module _ {D : Type 0} (tells : Type 0) (size : D → ℕ → ℕ) (now : D → �
       ∙ ap (λ (x : Store). let t : Store = record x { tables = apply x.tables f; numbers = numbers_after x.numbers x.greatest f; greatest = greatest_after x.greatest f; undo = x.undo ++ f ∷ [] } in t) put
       ∙ ap (λ (x : State). let t : Store = record s { files = new.files; buffer = new.buffer; replay = x; tables = apply s.tables f; numbers = numbers_after s.numbers s.greatest f; greatest = greatest_after s.greatest f; undo = s.undo ++ f ∷ [] } in t) replay in
       subst (λ (x : Store). KeepsStore tells size now image can_leave left_at since found ds (effects ++ f ∷ []) x disk) (sym after)
-      (placed_keeps old placed tx r f new.files new.buffer disk law same is found_is makes number new_row log_is on)
+      (placed_keeps old placed tx r f new.files new.buffer disk law pages same is found_is makes stands number new_row log_is on)
 
-  pub committed_keeps : (tx n : ℕ) (more : List Flushed) (new : Store) (files : Files) (buffer : Buffer) (undo : List Effect) (disk : D) → s.current ≡ Some tx → undo ≡ []
+  pub committed_keeps : (tx n : ℕ) (more : List Flushed) (new : Store) (files : Files) (buffer : Buffer) (undo : List Effect) (disk : D) → RecordsKeepPages → s.current ≡ Some tx → undo ≡ []
       → new ≡ record s { files = new.files; buffer = new.buffer; replay = new.replay } → new.replay ≡ run s.replay (Commit tx ∷ []) → IsLogFor s.layout new.files new.buffer
       → files ≡ taken new.files n → buffer ≡ empty_at (new.buffer.first + length new.buffer.blocks)
       → Logs (entries_of h s.current ++ Commit tx ∷ []) ((h.marks ++ more) ++ record { at = now disk; count = length (entries_of h s.current ++ Commit tx ∷ []) } ∷ []) files buffer disk
       → KeepsStore tells size now image can_leave left_at since found (ds ++ record { effects = effects; flushed = Some (now disk) } ∷ []) []
       (record new { files = files; buffer = buffer; current = None; undo = undo }) disk
-  committed_keeps tx n more new files buffer undo disk is none put replay put_log moved emptied on =
+  committed_keeps tx n more new files buffer undo disk pages is none put replay put_log moved emptied on =
       let l = s.layout in
       let after : Store = record s { files = files; buffer = buffer; replay = run s.replay (Commit tx ∷ []); current = None; undo = [] } in
       let same : record new { files = files; buffer = buffer; current = None; undo = undo } ≡ after =
@@ -278,7 +292,7 @@ module _ {D : Type 0} (tells : Type 0) (size : D → ℕ → ℕ) (now : D → �
       let next : files ≡ record new.files { next = files.next } =
       moved ∙ ap (λ (n : ℕ). let t : Files = record new.files { next = n } in t) (sym (ap (λ (f : Files). f.next) moved)) in
       subst (λ (x : Store). KeepsStore tells size now image can_leave left_at since found (ds ++ record { effects = effects; flushed = Some (now disk) } ∷ []) [] x disk) (sym same)
-      (commit_keeps tx more files buffer disk is (log_for l new.files files new.buffer buffer put_log next within below) on)
+      (commit_keeps tx more files buffer disk pages is (log_for l new.files files new.buffer buffer put_log next within below) on)
 
   -- The same store, where nothing is said of the disk's bytes.
   pub is_sound : IsStore ⊥ size now image can_leave left_at s d
@@ -297,6 +311,7 @@ module _ {D : Type 0} (tells : Type 0) (size : D → ℕ → ℕ) (now : D → �
       replay = k.replay;
       tables = k.tables;
       undo = k.undo;
+      paged = k.paged;
       memory = k.memory;
     };
   }

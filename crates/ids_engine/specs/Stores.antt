@@ -1,6 +1,7 @@
 -- What the store of one session keeps: all that the session logged stands in the log on the disk and in the buffer, and the tables in memory are what it says.
 use Rattle.std.specs.Prelude.{◌≡◌, ◌≤◌, ◌⊎◌, ℕ, ◌+◌, ◌*◌, Bool, true, false, IsSome, List, [], ◌∷◌, ◌++◌, length, Option, Some, None}
 use Rattle.std.specs.List.{AllByRecursion}
+use Rattle.std.specs.FinMap.{empty}
 use Rattle.ids_outside.specs.Images.{Image}
 use Rattle.chunk_map.specs.declared.layout.Layout.{Layout}
 use Rattle.chunk_map.specs.Layouts.{IsLayout}
@@ -12,8 +13,10 @@ use Rattle.ids_model.specs.declared.effect.Effect.{Effect}
 use Rattle.ids_model.specs.Tables.{Tables, apply_all}
 use Rattle.ids_model.specs.Recovered.{State, nothing, run}
 use Rattle.ids_model.specs.Logged.{Logged, records_of, log_of, tables_after, MakesAll, IsLogOf, IsQuiet, IsRecovered}
-use Rattle.fast_recovery.specs.Images.{HasEmptyBase, log_in, log_region}
+use Rattle.fast_recovery.specs.Images.{HasEmptyBase, log_in, log_region, page_count}
 use Rattle.fast_recovery.specs.Order.{open_in}
+use Rattle.fast_recovery.specs.InPlace.{all_in_place}
+use Rattle.fast_recovery.specs.PagedStates.{IsPagedState}
 use Rattle.ids_engine.specs.Kept.{IsKept}
 use Rattle.ids_engine.specs.Survival.{Done, tables_from}
 use Rattle.ids_engine.specs.declared.store.Store.{Store}
@@ -82,6 +85,8 @@ pub record IsHistory (tells : Type 0) (l : Layout) (found : Tables) (done : List
   pub closes : tells → (front rest : List Entry) → h.closing ≡ front ++ rest → IsRecovered (h.before ++ front) found
   -- the old records are in order, and with what closed them leave no transaction open
   pub in_order : tells → open_in None (h.before ++ h.closing) ≡ Some None
+  -- and each record, old or since, is in its place
+  pub placed : tells → all_in_place (page_count l) empty (h.before ++ entries_of h current) ≡ true
   pub began : tells → h.start ≡ run nothing (h.before ++ h.closing)
   pub quiet : IsQuiet h.start found
   pub logs : IsLogOf h.start found h.logged
@@ -109,6 +114,7 @@ pub record KeepsStore {D : Type 0} (tells : Type 0) (size : D → ℕ → ℕ) (
   pub replay : store.replay ≡ state_of history store.current
   pub tables : store.tables ≡ apply_all (tables_from found done) effects
   pub undo : store.undo ≡ effects
+  pub paged : IsPagedState (page_count store.layout) store.replay
   pub memory : IsKept store.replay store.tables store.numbers store.greatest
 
 -- such a store, of some session

@@ -6,6 +6,7 @@ mod init;
 pub mod journal_laws;
 pub mod laws;
 mod placing;
+mod ranges;
 mod store;
 pub mod store_laws;
 mod store_opening;

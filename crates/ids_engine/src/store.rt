@@ -27,8 +27,10 @@ ghost use Rattle.ids_engine.specs.declared.store.StoreFault.TheVariants as fault
 
 use crate::laws::kept_by_records;
 use crate::placing::{Placed, record_of};
+use crate::ranges::in_range;
 use chunk_map::Layout;
 use fast_recovery::TableNumbers;
+use fast_recovery::laws::records_keep_pages;
 use fast_recovery::replay::Replay;
 use ids_base::list::List;
 use ids_base::memory::Memory;
@@ -139,6 +141,7 @@ impl Store {
         ensures sizes { (j : ℕ) → D.size disk.new j ≡ D.size disk.old j }
     {
         kept_by_records();
+        records_keep_pages();
         let tx = self.next_tx()?;
         let pages = pages_of(&self.layout);
         let placed = record_of(
@@ -155,6 +158,7 @@ impl Store {
             Placed::NoSpace { rows, pages } => return Ok(Changed::NoSpace { rows, pages }),
             Placed::Record(record) => record,
         };
+        in_range(&record);
         self.begin(disk, tx)?;
         self.put(disk, &record)?;
         self.take(effect)?;
@@ -184,6 +188,7 @@ impl Store {
         ensures cause { result ≡ Err faults.Disk → Rose (D.fault_count disk.old) (D.fault_count disk.new) }
         ensures sizes { (j : ℕ) → D.size disk.new j ≡ D.size disk.old j }
     {
+        records_keep_pages();
         let Some(tx) = self.current else {
             return Ok(());
         };
@@ -223,6 +228,7 @@ impl Store {
         ensures sizes { (j : ℕ) → D.size disk.new j ≡ D.size disk.old j }
     {
         undone_are_back();
+        records_keep_pages();
         let Some(tx) = self.current else {
             return Ok(());
         };

@@ -27,7 +27,7 @@ impl Store {
     ///
     /// Errors, in the order in which they are looked for: `NotFormatted` and `Damaged` as the identity page and the checkpoint
     /// pages say; `Damaged` also where the newest checkpoint is not the one that formatting writes, where a record of the log is
-    /// out of order, or, with its row id, where the log leaves a row that breaks a rule of well formed rows; `LogFull` where a
+    /// out of order or not in its place, or, with its row id, where the log leaves a row that breaks a rule of well formed rows; `LogFull` where a
     /// transaction is open and the log has no block left; `Disk` only where a call of the disk failed; `Memory` where memory was
     /// wanting. Where the disk is refused, nothing was written.
     ///

@@ -1,14 +1,13 @@
-use Rattle.std.proofs.Common.{◌≡◌, true, false, Option, Some, None, [], ◌∷◌, ap, sym, ◌∙◌, subst}
+use Rattle.std.proofs.Common.{◌≡◌, Some, [], ◌∷◌, ap, sym, ◌∙◌}
 use Rattle.std.specs.List.{slice_get}
 use Rattle.ids_base.specs.declared.value.Value.{Value}
 use Rattle.row_codec.specs.Rows.{row_of}
 use Rattle.ids_model.specs.Fits.{key_of}
 use Rattle.ids_model.specs.Tables.{Row, Shape}
 use Rattle.ids_model.specs.Slots.{Bytes}
-use Rattle.ids_model.proofs.Holding.{some_same, none_some}
+use Rattle.ids_model.proofs.Holding.{some_same}
 use Rattle.ids_model.proofs.Lookups.{same_key, one_key}
 use Rattle.ids_model.proofs.RowChanges.{key_itself}
-use Rattle.fast_recovery.specs.Keys.{SaysKey}
 use Rattle.fast_recovery.proofs.keys.says_key.Goals as goal
 
 -- the first value of a row is its key

@@ -1,4 +1,4 @@
-use Rattle.std.proofs.Common.{◌≡◌, refl, ◌∙◌, subst}
+use Rattle.std.proofs.Common.{refl, ◌∙◌, subst}
 use Rattle.ids_outside.specs.Images.{Image}
 use Rattle.ids_outside.specs.Stops.{Only}
 use Rattle.fast_recovery.proofs.Keeping.{behind-sync, behind-reads}

@@ -4,7 +4,7 @@ use Rattle.ids_model.specs.Slots.{Bytes, Slots}
 use Rattle.fast_recovery.specs.Keys.{HasKey}
 use Rattle.fast_recovery.specs.Reading.{AreEntries, IsRead}
 use Rattle.fast_recovery.proofs.EntriesInOrder.{all_entries, none_read}
-use Rattle.fast_recovery.proofs.KeysFound.{key_there, key_passed}
+use Rattle.fast_recovery.proofs.KeysFound.{key_passed}
 use Rattle.fast_recovery.proofs.replay.Replay.row_with_key.Goals as goal
 
 pub loop-slot-init : goal.loop-slot-init

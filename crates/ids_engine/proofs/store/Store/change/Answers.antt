@@ -3,6 +3,7 @@ use Rattle.ids_model.specs.declared.effect.Effect.{Effect}
 use Rattle.ids_model.specs.Tables.{Tables, apply}
 use Rattle.ids_engine.specs.declared.store.Store.{Store}
 use Rattle.ids_engine.specs.Stores.{entries_of}
+use Rattle.ids_engine.proofs.PlacedRecords.{in_its_place}
 use Rattle.ids_engine.proofs.StoreSteps.{changed_keeps, placed_keeps, fault_survives, on_err_of}
 use Rattle.ids_engine.proofs.store.Store.change.Goals as goal
 
@@ -40,9 +41,12 @@ returns-in_err-take-clause-err g c = on_err_of c.from_residual-in_err-take.resul
     let effect = c.args.effect.now in
     let begun = c.in_ok-begin.ensures.kept since found done effects keeps in
     let h = begun.history in
+    let k = c.requires.sound.keeps in
+    let stands = in_its_place c.args.self.now c.in_ok-placed.placed c.in_ok-tx.tx c.pages_of-pages.result c.in-Record.record c.args.effect.now k.paged k.memory c.in-Record.is
+    c.in_ok-placed.ensures.makes c.pages_of-pages.ensures.pages c.in_ok-placed.ensures.lawful c.in_range.ensures in
     let kept = placed_keeps d.tells d.size d.now d.image d.can_leave d.left_at since found done effects s c.begin.new.disk begun
-    c.args.self.now c.in_ok-placed.placed c.in_ok-tx.tx c.in-Record.record effect c.put.new.self.files c.put.new.self.buffer c.put.new.disk c.kept_by_records.ensures
-    c.in_ok-begin.ensures.same c.in_ok-begin.ensures.current c.in-Record.is c.in_ok-placed.ensures.makes c.in_ok-placed.ensures.number c.requires.one c.in_ok-put.ensures.log
+    c.args.self.now c.in_ok-placed.placed c.in_ok-tx.tx c.in-Record.record effect c.put.new.self.files c.put.new.self.buffer c.put.new.disk c.kept_by_records.ensures c.records_keep_pages.ensures
+    c.in_ok-begin.ensures.same c.in_ok-begin.ensures.current c.in-Record.is c.in_ok-placed.ensures.makes stands c.in_ok-placed.ensures.number c.requires.one c.in_ok-put.ensures.log
     (c.in_ok-put.ensures.kept since h.base h.before (entries_of h s.current) h.marks begun.kept) in
     fault_survives d.tells d.size d.now d.image d.can_leave d.left_at since found done (effects ++ effect ∷ []) _ c.put.new.disk kept g.met.D.Disk.left_tells c.put.new.disk kept.kept.outlives)
 
@@ -53,9 +57,12 @@ returns-clause-done g c = λ since found done effects keeps.
     let put = c.in_ok-put.ensures in
     let begun = c.in_ok-begin.ensures.kept since found done effects keeps in
     let h = begun.history in
+    let k = c.requires.sound.keeps in
+    let stands = in_its_place c.args.self.now c.in_ok-placed.placed c.in_ok-tx.tx c.pages_of-pages.result c.in-Record.record c.args.effect.now k.paged k.memory c.in-Record.is
+    c.in_ok-placed.ensures.makes c.pages_of-pages.ensures.pages c.in_ok-placed.ensures.lawful c.in_range.ensures in
     changed_keeps d.tells d.size d.now d.image d.can_leave d.left_at since found done effects s c.begin.new.disk begun
-    c.args.self.now c.in_ok-placed.placed c.in_ok-tx.tx c.in-Record.record c.args.effect.now c.put.new.self c.take.new.self c.put.new.disk c.kept_by_records.ensures
-    c.in_ok-begin.ensures.same c.in_ok-begin.ensures.current c.in-Record.is c.in_ok-placed.ensures.makes c.in_ok-placed.ensures.number c.requires.one put.same put.replay
+    c.args.self.now c.in_ok-placed.placed c.in_ok-tx.tx c.in-Record.record c.args.effect.now c.put.new.self c.take.new.self c.put.new.disk c.kept_by_records.ensures c.records_keep_pages.ensures
+    c.in_ok-begin.ensures.same c.in_ok-begin.ensures.current c.in-Record.is c.in_ok-placed.ensures.makes stands c.in_ok-placed.ensures.number c.requires.one put.same put.replay
     c.in_ok-take.ensures.taken put.log (put.kept since h.base h.before (entries_of h s.current) h.marks begun.kept)
 
 pub returns-clause-sound : goal.returns-clause-sound
@@ -65,14 +72,17 @@ returns-clause-sound g c =
     let put = c.in_ok-put.ensures in
     let r = c.in_ok-begin.ensures.sound in
     let h = r.keeps.history in
+    let k = c.requires.sound.keeps in
+    let stands = in_its_place c.args.self.now c.in_ok-placed.placed c.in_ok-tx.tx c.pages_of-pages.result c.in-Record.record c.args.effect.now k.paged k.memory c.in-Record.is
+    c.in_ok-placed.ensures.makes c.pages_of-pages.ensures.pages c.in_ok-placed.ensures.lawful c.in_range.ensures in
     record {
       since = r.since;
       found = r.found;
       done = r.done;
       effects = r.effects ++ c.args.effect.now ∷ [];
       keeps = changed_keeps ⊥ d.size d.now d.image d.can_leave d.left_at r.since r.found r.done r.effects s c.begin.new.disk r.keeps
-          c.args.self.now c.in_ok-placed.placed c.in_ok-tx.tx c.in-Record.record c.args.effect.now c.put.new.self c.take.new.self c.put.new.disk c.kept_by_records.ensures
-          c.in_ok-begin.ensures.same c.in_ok-begin.ensures.current c.in-Record.is c.in_ok-placed.ensures.makes c.in_ok-placed.ensures.number c.requires.one put.same put.replay
+          c.args.self.now c.in_ok-placed.placed c.in_ok-tx.tx c.in-Record.record c.args.effect.now c.put.new.self c.take.new.self c.put.new.disk c.kept_by_records.ensures c.records_keep_pages.ensures
+          c.in_ok-begin.ensures.same c.in_ok-begin.ensures.current c.in-Record.is c.in_ok-placed.ensures.makes stands c.in_ok-placed.ensures.number c.requires.one put.same put.replay
           c.in_ok-take.ensures.taken put.log (put.kept r.since h.base h.before (entries_of h s.current) h.marks r.keeps.kept);
     }
 

@@ -60,7 +60,7 @@ returns-clause-ok g c = λ since found done effects keeps.
     let on = put.kept since h.base h.before (entries_of h s.current) h.marks keeps.kept in
     let flushed = c.in_ok-flush.ensures.kept since h.base h.before (entries_of h s.current ++ Commit tx ∷ []) (h.marks ++ on.0) on.1 in
     let stored = committed_keeps d.tells d.size d.now d.image d.can_leave d.left_at since found done effects s c.args.disk.now keeps tx (length new.buffer.blocks) on.0 new files buffer c.new.result c.flush.new.disk
-    c.in-Some.is c.new.ensures put.same put.replay put.log c.in_ok-flush.ensures.taken c.in_ok-flush.ensures.emptied flushed in
+    c.records_keep_pages.ensures c.in-Some.is c.new.ensures put.same put.replay put.log c.in_ok-flush.ensures.taken c.in_ok-flush.ensures.emptied flushed in
     subst (λ (o : Option ℕ). KeepsStore d.tells d.size d.now d.image d.can_leave d.left_at since found (with_open o done effects (Some (d.now c.flush.new.disk))) [] (record new { files = files; buffer = buffer; current = None; undo = c.new.result }) c.flush.new.disk)
     (sym c.in-Some.is) stored
 
@@ -81,5 +81,5 @@ returns-clause-sound g c =
       done = r.done ++ record { effects = r.effects; flushed = Some (d.now c.flush.new.disk) } ∷ [];
       effects = [];
       keeps = committed_keeps ⊥ d.size d.now d.image d.can_leave d.left_at r.since r.found r.done r.effects s c.args.disk.now r.keeps tx (length new.buffer.blocks) on.0 new c.flush.new.files c.flush.new.self
-          c.new.result c.flush.new.disk c.in-Some.is c.new.ensures put.same put.replay put.log c.in_ok-flush.ensures.taken c.in_ok-flush.ensures.emptied flushed;
+          c.new.result c.flush.new.disk c.records_keep_pages.ensures c.in-Some.is c.new.ensures put.same put.replay put.log c.in_ok-flush.ensures.taken c.in_ok-flush.ensures.emptied flushed;
     }

@@ -33,7 +33,7 @@ returns-clause-sound g c =
       current = None;
       undo = c.new.result;
     } in
-    sound_opening store refl c.new.ensures is.layout (opened_log o is c.next_is_within.ensures) is.quiet is.found
+    sound_opening store refl c.new.ensures is.layout (opened_log o is c.next_is_within.ensures) is.quiet c.in_ok-opened.ensures.paged is.found
     d.size d.now d.image d.can_leave d.left_at disk d.tells x is.buffer
     (λ y can. g.met.D.Disk.left_tells disk (d.now disk) y (g.met.D.Disk.counts_now disk y can)) (g.met.D.Disk.image_left disk)
     (λ before held. c.openings_keep.ensures x before o.files disk c.in_ok-opened.ensures.ready held)
@@ -68,13 +68,13 @@ returns-clause-kept g c = λ T told recovers.
     let layout : recovers.layout ≡ o.layout = c.one_of_each.ensures.layout recovers.layout o.layout x recovers.base.layout has.layout in
     let base : HasEmptyBase o.layout x = subst (λ (l : Layout). HasEmptyBase l x) layout recovers.base in
     let was : IsRecovered (log_in o.layout x) T = subst (λ (l : Layout). IsRecovered (log_in l x) T) layout recovers.tables in
-    let one : T ≡ found.tables = one_found store refl c.new.ensures is.layout log is.quiet memory c.runs_join.ensures c.rollbacks_are_seen.ensures c.tables_are_one.ensures (log_in o.layout x) has.last T has.in_order has.replay was in
+    let one : T ≡ found.tables = one_found store refl c.new.ensures is.layout log is.quiet c.in_ok-opened.ensures.paged memory c.runs_join.ensures c.rollbacks_are_seen.ensures c.tables_are_one.ensures (log_in o.layout x) has.last T has.in_order has.replay was in
     record {
       tables = one;
       keeps = λ since is_since.
           let k = c.in_ok-opened.ensures.keeps told since is_since in
-          found_keeps store refl c.new.ensures is.layout log is.quiet memory d.size d.now d.image d.can_leave d.left_at disk d.tells c.runs_join.ensures c.rollbacks_are_seen.ensures since x k.last k.marks
-          base (subst (λ (U : Tables). IsRecovered (log_in o.layout x) U) one was) k.in_order
+          found_keeps store refl c.new.ensures is.layout log is.quiet c.in_ok-opened.ensures.paged memory d.size d.now d.image d.can_leave d.left_at disk d.tells c.runs_join.ensures c.rollbacks_are_seen.ensures since x k.last k.marks
+          base (subst (λ (U : Tables). IsRecovered (log_in o.layout x) U) one was) k.in_order has.in_place
           (has.replay ∙ ap (λ (last : Option ℕ). run nothing (log_in o.layout x ++ closing last)) (same_last (open_in None (log_in o.layout x)) has.last k.last has.in_order k.in_order)) k.keeps;
     }
 

@@ -26,7 +26,7 @@ returns-clause-ok g c = λ since found done effects keeps.
     let h = keeps.history in
     let put = c.in_ok-put.ensures in
     let back : c.undo.new.self ≡ undo_all s.tables s.undo = c.in_ok-undo.ensures.ok ∙ ap (λ (fs : List Effect). undo_all s.tables fs) c.as_slice.ensures in
-    rolled-keeps d.tells d.size d.now d.image d.can_leave d.left_at since found done effects s c.args.disk.now keeps c.in-Some.tx c.in-Some.is c.undone_are_back.ensures
+    rolled-keeps d.tells d.size d.now d.image d.can_leave d.left_at since found done effects s c.args.disk.now keeps c.in-Some.tx c.in-Some.is c.undone_are_back.ensures c.records_keep_pages.ensures
     c.undo.new.self c.new.result c.put.new.self c.put.new.disk back c.new.ensures put.same put.replay put.log
     (put.kept since h.base h.before (entries_of h s.current) h.marks keeps.kept)
 
@@ -37,7 +37,7 @@ returns-clause-tables g c = λ since found done effects keeps.
     let h = keeps.history in
     let put = c.in_ok-put.ensures in
     let back : c.undo.new.self ≡ undo_all s.tables s.undo = c.in_ok-undo.ensures.ok ∙ ap (λ (fs : List Effect). undo_all s.tables fs) c.as_slice.ensures in
-    (rolled-keeps d.tells d.size d.now d.image d.can_leave d.left_at since found done effects s c.args.disk.now keeps c.in-Some.tx c.in-Some.is c.undone_are_back.ensures
+    (rolled-keeps d.tells d.size d.now d.image d.can_leave d.left_at since found done effects s c.args.disk.now keeps c.in-Some.tx c.in-Some.is c.undone_are_back.ensures c.records_keep_pages.ensures
     c.undo.new.self c.new.result c.put.new.self c.put.new.disk back c.new.ensures put.same put.replay put.log
     (put.kept since h.base h.before (entries_of h s.current) h.marks keeps.kept)).tables
 
@@ -54,7 +54,7 @@ returns-clause-sound g c =
       found = r.found;
       done = r.done;
       effects = [];
-      keeps = rolled-keeps ⊥ d.size d.now d.image d.can_leave d.left_at r.since r.found r.done r.effects s c.args.disk.now r.keeps c.in-Some.tx c.in-Some.is c.undone_are_back.ensures
+      keeps = rolled-keeps ⊥ d.size d.now d.image d.can_leave d.left_at r.since r.found r.done r.effects s c.args.disk.now r.keeps c.in-Some.tx c.in-Some.is c.undone_are_back.ensures c.records_keep_pages.ensures
           c.undo.new.self c.new.result c.put.new.self c.put.new.disk back c.new.ensures put.same put.replay put.log
           (put.kept r.since h.base h.before (entries_of h s.current) h.marks r.keeps.kept);
     }
