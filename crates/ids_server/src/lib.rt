@@ -7,6 +7,8 @@
 pub mod laws;
 mod opening;
 pub mod printer;
+#[cfg(test)]
+mod random_tests;
 pub mod reading;
 mod runner;
 pub mod server;

@@ -1,0 +1,73 @@
+#!/usr/bin/env python3
+"""What a statement costs as a table grows: rows are put, a tenth of them goes, and a tenth is looked up by key, over real files.
+
+The disk is formatted here and not by `ids init`, whose log would be too short: 64 log files of 1024 blocks. Each part is a run of its own,
+in transactions of 100 statements; from its time that of a run over the same disk with an empty script, which opens it and ends, is taken away.
+Needs the built program crates/ids/out/ids.
+Usage: tools/bench_rows.py [ROWS [FOLDER]]   (10^3, 10^4, .. up to ROWS, 100000 by default; a folder on the file system that is to be used)"""
+import os, random, shutil, struct, subprocess, sys, tempfile, time
+
+program = os.path.join(os.path.dirname(os.path.abspath(__file__)), "..", "crates", "ids", "out", "ids")
+most = int(sys.argv[1]) if len(sys.argv) > 1 else 100000
+base = sys.argv[2] if len(sys.argv) > 2 else "/tmp"
+PAGE = 2048
+PHYS, LOGS, LOG_SIZE, CHUNKS, DATA = 64, 64, 1024, 1, 8192
+ROOT = 3 + PHYS + LOGS * LOG_SIZE
+
+
+def gated(fields):
+    return fields + bytes(PAGE - 1 - len(fields)) + b"\xa5"
+
+
+def format_disk(folder):
+    """The two chunk files, as docs/FORMATS.md says: an identity page, and checkpoint page 1, quiet, whose log begins with block 1."""
+    identity = b"IDSR" + struct.pack(">H6I", 1, PHYS, LOGS, LOG_SIZE, CHUNKS, DATA, ROOT)
+    checkpoint = struct.pack(">QBQH", 1, 0, 1, 0)
+    with open(os.path.join(folder, "root.chk"), "wb") as file:
+        file.write(gated(identity) + gated(checkpoint))
+        file.truncate(ROOT * PAGE)
+    with open(os.path.join(folder, "data1.chk"), "wb") as file:
+        file.truncate(DATA * PAGE)
+
+
+def run(folder, statements):
+    """The seconds of a run of these statements, in transactions of 100."""
+    lines = []
+    for at in range(0, len(statements), 100):
+        lines += ["BEGIN", *statements[at:at + 100], "COMMIT"]
+    text = "\n".join(lines)
+    start = time.perf_counter()
+    ended = subprocess.run([program, "run"], input=text, text=True, capture_output=True, cwd=folder)
+    taken = time.perf_counter() - start
+    if ended.returncode != 0 or "error" in ended.stdout or "rows 0" in ended.stdout:
+        raise SystemExit(f"status {ended.returncode}: {ended.stdout[-200:]}")
+    return taken
+
+
+def measure(rows):
+    folder = tempfile.mkdtemp(prefix="ids-rows-", dir=base)
+    try:
+        format_disk(folder)
+        run(folder, ["CREATE TABLE t (k INTEGER, v INTEGER)"])
+        random.seed(rows)
+        keys = random.sample(range(10 * rows), rows)
+        gone, looked = keys[: rows // 10], keys[rows // 10 : rows // 5]
+        parts = {
+            "INSERT": [f"INSERT INTO t VALUES ({key}, {key % 1000})" for key in keys],
+            "DELETE": [f"DELETE FROM t WHERE k = {key}" for key in gone],
+            "SELECT": [f"SELECT * FROM t WHERE k = {key}" for key in looked],
+            "INSERT again": [f"INSERT INTO t VALUES ({key}, 0)" for key in gone],
+        }
+        costs = []
+        for name, statements in parts.items():
+            opening = run(folder, [])
+            costs.append(f"{name} {(run(folder, statements) - opening) / len(statements) * 1e6:.1f}")
+        print(f"{rows} rows: microseconds a statement: {', '.join(costs)}; opening at the end {run(folder, []) * 1e3:.1f} ms", flush=True)
+    finally:
+        shutil.rmtree(folder)
+
+
+rows = 1000
+while rows <= most:
+    measure(rows)
+    rows *= 10
