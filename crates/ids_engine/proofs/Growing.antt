@@ -93,6 +93,7 @@ module _ (tells : Type 0) (l : Layout) (found : Tables) (ds : List Done) (effect
     log = is.log;
     closes = is.closes;
     began = is.began;
+    closed = is.closed;
     quiet = is.quiet;
     logs = is.logs;
     all_done = done_more (length h.closing) h.logged ds h.marks more is.all_done;
@@ -119,6 +120,7 @@ module _ (tells : Type 0) (l : Layout) (found : Tables) (ds : List Done) (effect
     log = is.log;
     closes = is.closes;
     began = is.began;
+    closed = is.closed;
     quiet = is.quiet;
     logs = is.logs;
     all_done = done_more (length h.closing) h.logged ds h.marks more is.all_done;
@@ -169,6 +171,7 @@ module _ (tells : Type 0) (l : Layout) (found : Tables) (ds : List Done) (effect
     log = is.log;
     closes = is.closes;
     began = is.began;
+    closed = is.closed;
     quiet = is.quiet;
     logs = logs_go_on h.start found h.logged (whole committed tx) is.logs is.makes;
     all_done = done_then (length h.closing) h.logged (whole committed tx ∷ []) ds es (h.marks ++ more) (done_more (length h.closing) h.logged ds h.marks more is.all_done) last;

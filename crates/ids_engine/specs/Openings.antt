@@ -22,7 +22,7 @@ use Rattle.ids_engine.specs.declared.store.Store.{Store}
 pub record HasFound {D : Type 0} (tells : Type 0) (size : D → ℕ → ℕ) (now : D → ℕ) (image : D → Image) (can_leave : D → Image → Type 0) (left_at : D → ℕ → Image → Type 0)
     (store : Store) (old new : D) (T : Tables) : Type 0 where
   pub tables : T ≡ store.tables
-  pub keeps : (since : ℕ) → IsSince now image can_leave old since → KeepsStore tells size now image can_leave left_at since store.tables [] [] store new
+  pub keeps : (since : ℕ) → IsSince now image can_leave old since → KeepsStore tells size now image can_leave left_at since (image old) store.tables [] [] store new
 
 -- pages and rows are no well formed ones as the log leaves them, with a ROLLBACK of the transaction that is open at its end
 pub record HasRowsDamaged (x : Image) : Type 0 where

@@ -23,3 +23,6 @@ pub returns-clause-sink_fault : goal.returns-clause-sink_fault
 returns-clause-sink_fault g c = λ failed.
     let caused = subst (λ p. PrinterIsCaused g.K.Sink.fault_count p (g.K.Sink.fault_count c.args.out)) (sym c.new-printer.ensures) (starts-caused g.K.Sink.fault_count c.args.out) in
     c.finish-out.ensures.cause _ (c.answer-ran.ensures.printed.caused _ caused) (c.answer-ran.ensures.failed.0 failed)
+
+pub returns-clause-log_full : goal.returns-clause-log_full
+returns-clause-log_full g c = λ full. (c.answer-ran.ensures.full_of_run full, c.answer-ran.ensures.log_full full)
