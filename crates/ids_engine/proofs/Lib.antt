@@ -13,6 +13,7 @@ pub mod Growing
 pub mod Putting
 pub mod StoreSteps
 pub mod RollingBack
+pub mod OutOfBlocks
 pub mod Opened
 pub mod FirstsCovered
 pub mod JournalsGrow

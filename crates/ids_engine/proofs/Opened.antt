@@ -6,7 +6,7 @@ use Rattle.std.proofs.lemmas.List.{append-nil}
 use Rattle.ids_outside.specs.Images.{Image}
 use Rattle.chunk_map.specs.Layouts.{IsLayout}
 use Rattle.log_records.specs.Entries.{Entry}
-use Rattle.log_buffer.specs.Buffers.{Buffer, empty_at}
+use Rattle.log_buffer.specs.Buffers.{Buffer, empty_at, waiting}
 use Rattle.log_buffer.specs.Kept.{Flushed, tail_entries, HasLog, KeepsLog}
 use Rattle.ids_model.specs.Tables.{Tables}
 use Rattle.ids_model.specs.Recovered.{State, nothing, run, seen, owns, all_taken_back}
@@ -25,7 +25,7 @@ use Rattle.fast_recovery.proofs.OrderFronts.{open_in-closed}
 use Rattle.fast_recovery.proofs.Placed.{places-append, places-closing}
 use Rattle.fast_recovery.proofs.SeenTables.{front-recovers}
 use Rattle.ids_engine.specs.Kept.{IsKept}
-use Rattle.ids_engine.specs.Stores.{History, IsHistory, IsLogFor, KeepsStore, IsStore, entries_of, state_of}
+use Rattle.ids_engine.specs.Stores.{History, filled, IsHistory, IsLogFor, KeepsStore, IsStore, entries_of, state_of}
 use Rattle.ids_engine.specs.declared.store.Store.{Store}
 
 pub same_last : (o : Option (Option ℕ)) (p q : Option ℕ) → o ≡ Some p → o ≡ Some q → p ≡ q
@@ -38,6 +38,7 @@ opened_log o is within = record {
   first = is.first;
   limit = is.limit;
   next = subst (λ (b : Buffer). b.first ≤ o.files.limit) (sym is.buffer) within;
+  packed = subst (λ (b : Buffer). b ≡ filled (empty_at b.first) (waiting b)) (sym is.buffer) refl;
   below = subst (λ (b : Buffer). 1 ≤ length b.blocks → b.first + length b.blocks ≤ o.layout.logs * o.layout.log_size) (sym is.buffer) (λ some. absurd (omega (arith, some)));
 }
 
@@ -63,9 +64,10 @@ module _ (s : Store) (idle : s.current ≡ None) (none : s.undo ≡ []) (ranges 
         → (tells → open_in None (before ++ closes) ≡ Some None)
         → (tells → all_in_place (page_count s.layout) empty (before ++ closes) ≡ true)
         → (tells → s.replay ≡ run nothing (before ++ closes))
+        → (tells → (last : Option ℕ) × (open_in None before ≡ Some last) × (closes ≡ closing last))
         → KeepsLog size now image can_leave left_at since base before closes marks s.files s.buffer disk
-        → KeepsStore tells size now image can_leave left_at since s.tables [] [] s disk
-    fresh_keeps tells since base before closes marks blank log_of_base recovers order placed began keeps =
+        → KeepsStore tells size now image can_leave left_at since base s.tables [] [] s disk
+    fresh_keeps tells since base before closes marks blank log_of_base recovers order placed began closed keeps =
         let h : History = record { base = base; before = before; closing = closes; start = s.replay; logged = []; changes = []; marks = marks } in
         let holds : IsHistory tells s.layout s.tables [] [] None h = record {
           empty_base = blank;
@@ -74,6 +76,7 @@ module _ (s : Store) (idle : s.current ≡ None) (none : s.undo ≡ []) (ranges 
           in_order = order;
           placed = λ told. ap (λ (es : List Entry). all_in_place (page_count s.layout) empty (before ++ es)) (append-nil closes) ∙ placed told;
           began = began;
+          closed = closed;
           quiet = record { none = quiet; stands = memory.stands };
           logs = tt;
           all_done = tt;
@@ -81,6 +84,7 @@ module _ (s : Store) (idle : s.current ≡ None) (none : s.undo ≡ []) (ranges 
         } in
         record {
           history = h;
+          opened = refl;
           holds = subst (λ (o : Option ℕ). IsHistory tells s.layout s.tables [] [] o h) (sym idle) holds;
           kept = subst (λ (es : List Entry). KeepsLog size now image can_leave left_at since base before es marks s.files s.buffer disk)
               (sym (append-nil closes) ∙ ap (entries_of h) (sym idle)) keeps;
@@ -99,14 +103,14 @@ module _ (s : Store) (idle : s.current ≡ None) (none : s.undo ≡ []) (ranges 
         → HasEmptyBase s.layout x → IsRecovered (log_in s.layout x) s.tables → open_in None (log_in s.layout x) ≡ Some last → all_in_place (page_count s.layout) empty (log_in s.layout x) ≡ true
         → s.replay ≡ run nothing (log_in s.layout x ++ closing last)
         → KeepsLog size now image can_leave left_at since x (log_in s.layout x) (closing last) marks s.files s.buffer disk
-        → KeepsStore tells size now image can_leave left_at since s.tables [] [] s disk
+        → KeepsStore tells size now image can_leave left_at since x s.tables [] [] s disk
     found_keeps tells join rolls since x last marks base recovered order placed replay keeps =
         fresh_keeps tells since x (log_in s.layout x) (closing last) marks (λ told. base) (λ told. refl)
         (λ told front rest parts. front-recovers join rolls (log_in s.layout x) front rest last s.tables order parts recovered)
         (λ told. open_in-closed last (log_in s.layout x) order)
         (λ told. places-append join (page_count s.layout) empty (log_in s.layout x) (closing last) placed
         (places-closing join (page_count s.layout) (own_all empty (owns (log_in s.layout x))) last (closing last) [] (sym (append-nil (closing last)))))
-        (λ told. replay) keeps
+        (λ told. replay) (λ told. (last, order, refl)) keeps
 
     -- on any disk
     pub sound_opening : (tells : Type 0) (x : Image) → s.buffer ≡ empty_at s.files.next → ((c : Image) → can_leave disk c → tells) → (tells → can_leave disk (image disk))
@@ -123,10 +127,11 @@ module _ (s : Store) (idle : s.current ≡ None) (none : s.undo ≡ []) (ranges 
         }) in
         record {
           since = now disk;
+          base = x;
           found = s.tables;
           done = [];
           effects = [];
-          keeps = fresh_keeps ⊥ (now disk) x before [] [] (λ no. absurd no) (λ no. absurd no) (λ no. absurd no) (λ no. absurd no) (λ no. absurd no) (λ no. absurd no)
+          keeps = fresh_keeps ⊥ (now disk) x before [] [] (λ no. absurd no) (λ no. absurd no) (λ no. absurd no) (λ no. absurd no) (λ no. absurd no) (λ no. absurd no) (λ no. absurd no)
               (subst (λ (b : Buffer). KeepsLog size now image can_leave left_at (now disk) x before [] [] s.files b disk) (sym buffer) keeps);
         }
 

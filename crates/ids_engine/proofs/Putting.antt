@@ -6,8 +6,8 @@ use Rattle.chunk_map.specs.declared.layout.Layout.{Layout}
 use Rattle.log_records.specs.Entries.{Entry}
 use Rattle.log_records.specs.Spelling.{entry_size}
 use Rattle.log_files.specs.Files.{Files}
-use Rattle.log_buffer.specs.Buffers.{Buffer, empty_at, fits_last, has_room, block_for, joined, appended}
-use Rattle.ids_engine.specs.Stores.{IsLogFor}
+use Rattle.log_buffer.specs.Buffers.{Buffer, empty_at, waiting, fits_last, has_room, block_for, joined, appended}
+use Rattle.ids_engine.specs.Stores.{IsLogFor, filled}
 
 joined_length : (ess : List (List Entry)) (e : Entry) (size : ℕ) → fits_last ess size ≡ true → (length (joined ess e) ≡ length ess) × (1 ≤ length ess)
 joined_length [] e size fits = absurd (false≢true fits)
@@ -48,10 +48,21 @@ emptied_place b size full = chosen (fits_last b.blocks size) full
     chosen true full = absurd (false≢true (sym full))
     chosen false full = omega arith
 
+-- one record more at the end
+filled_more : (b : Buffer) (es : List Entry) (e : Entry) → filled b (es ++ e ∷ []) ≡ appended (filled b es) e
+filled_more b [] e = refl
+filled_more b (f ∷ es) e = filled_more (appended b f) es e
+
+-- a buffer that records fill stays one
+pub packed_more : (b new : Buffer) (e : Entry) → b ≡ filled (empty_at b.first) (waiting b) → new ≡ appended b e → waiting new ≡ waiting b ++ e ∷ [] → new ≡ filled (empty_at new.first) (waiting new)
+packed_more b new e packed is more =
+    is ∙ ap (λ (c : Buffer). appended c e) packed ∙ sym (filled_more (empty_at b.first) (waiting b) e)
+    ∙ ap (λ (es : List Entry). filled (empty_at b.first) es) (sym more) ∙ ap (λ (n : ℕ). filled (empty_at n) (waiting new)) (sym (ap (λ (c : Buffer). c.first) is))
+
 -- the files of the log, of which more blocks are retained, and a buffer whose blocks end before its last one
 pub log_for : (l : Layout) (files new : Files) (old buffer : Buffer) → IsLogFor l files old → new ≡ record files { next = new.next } → buffer.first ≤ 1 + l.logs * l.log_size
-    → (1 ≤ length buffer.blocks → buffer.first + length buffer.blocks ≤ l.logs * l.log_size) → IsLogFor l new buffer
-log_for l files new old buffer is same within below =
+    → (1 ≤ length buffer.blocks → buffer.first + length buffer.blocks ≤ l.logs * l.log_size) → buffer ≡ filled (empty_at buffer.first) (waiting buffer) → IsLogFor l new buffer
+log_for l files new old buffer is same within below packed =
     let limit : new.limit ≡ 1 + l.logs * l.log_size = ap (λ (f : Files). f.limit) same ∙ is.limit in
     record {
       region = ap (λ (f : Files). f.region) same ∙ is.region;
@@ -59,6 +70,7 @@ log_for l files new old buffer is same within below =
       limit = limit;
       next = omega (arith, limit, within);
       below = below;
+      packed = packed;
     }
 
 -- its blocks end within the log

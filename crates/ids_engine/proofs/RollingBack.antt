@@ -44,7 +44,7 @@ all-past s T tx (e ∷ es) [] all = absurd all
 all-past s T tx (e ∷ es) (f ∷ fs) all = (made-past s T tx e f all.0, all-past (run s (e ∷ [])) (apply T f) tx es fs all.1)
 
 module _ {D : Type 0} (tells : Type 0) (size : D → ℕ → ℕ) (now : D → ℕ) (image : D → Image) (can_leave : D → Image → Type 0) (left_at : D → ℕ → Image → Type 0)
-    (since : ℕ) (found : Tables) (ds : List Done) (effects : List Effect) (s : Store) (d : D) (k : KeepsStore tells size now image can_leave left_at since found ds effects s d)
+    (since : ℕ) (base : Image) (found : Tables) (ds : List Done) (effects : List Effect) (s : Store) (d : D) (k : KeepsStore tells size now image can_leave left_at since base found ds effects s d)
     (tx : ℕ) (is : s.current ≡ Some tx) where
   abbrev h : History
   h = k.history
@@ -54,7 +54,7 @@ module _ {D : Type 0} (tells : Type 0) (size : D → ℕ → ℕ) (now : D → �
   before = tables_from found ds
 
   holds : IsHistory tells s.layout found ds effects (Some tx) h
-  holds = holds_as tells size now image can_leave left_at since found ds effects s d k (Some tx) is
+  holds = holds_as tells size now image can_leave left_at since base found ds effects s d k (Some tx) is
 
   as-before : tables_after found h.logged ≡ before
   as-before = tables_same (length h.closing) found h.logged ds h.marks holds.all_done
@@ -79,19 +79,20 @@ module _ {D : Type 0} (tells : Type 0) (size : D → ℕ → ℕ) (now : D → �
 
   rollback-keeps : RecordsKeepPages → (files : Files) (buffer : Buffer) (disk : D) → IsLogFor s.layout files buffer
       → ((more : List Flushed) × KeepsLog size now image can_leave left_at since h.base h.before (entries_of h s.current ++ Rollback tx ∷ []) (h.marks ++ more) files buffer disk)
-      → KeepsStore tells size now image can_leave left_at since found ds []
+      → KeepsStore tells size now image can_leave left_at since base found ds []
       (record s { files = files; buffer = buffer; replay = run s.replay (Rollback tx ∷ []); tables = before; current = None; undo = [] }) disk
   rollback-keeps pages files buffer disk log on =
       let h' : History = ended tells s.layout found ds effects h false tx on.0 in
       record {
         history = h';
+        opened = k.opened;
         holds = rolls_back tells s.layout found ds effects h tx on.0 holds;
         kept = subst (λ (es : List Entry). KeepsLog size now image can_leave left_at since h.base h.before es (h.marks ++ on.0) files buffer disk)
-            (entries_as tells size now image can_leave left_at since found ds effects s d k (Some tx) (Rollback tx) is ∙ ended_entries tells s.layout found ds effects h false tx on.0) on.1;
+            (entries_as tells size now image can_leave left_at since base found ds effects s d k (Some tx) (Rollback tx) is ∙ ended_entries tells s.layout found ds effects h false tx on.0) on.1;
         all_flushed = k.all_flushed;
         layout = k.layout;
         log = log;
-        replay = state_as tells size now image can_leave left_at since found ds effects s d k (Some tx) (Rollback tx) is ∙ ended_state tells s.layout found ds effects h false tx on.0;
+        replay = state_as tells size now image can_leave left_at since base found ds effects s d k (Some tx) (Rollback tx) is ∙ ended_state tells s.layout found ds effects h false tx on.0;
         tables = refl;
         undo = refl;
         paged = pages (page_count s.layout) s.replay (Rollback tx) k.paged refl tt;
@@ -102,10 +103,10 @@ module _ {D : Type 0} (tells : Type 0) (size : D → ℕ → ℕ) (now : D → �
   pub rolled-keeps : UndoneAreBack → RecordsKeepPages → (T : Tables) (undo : List Effect) (new : Store) (disk : D) → T ≡ undo_all s.tables s.undo → undo ≡ []
       → new ≡ record s { files = new.files; buffer = new.buffer; replay = new.replay; tables = T } → new.replay ≡ run s.replay (Rollback tx ∷ []) → IsLogFor s.layout new.files new.buffer
       → ((more : List Flushed) × KeepsLog size now image can_leave left_at since h.base h.before (entries_of h s.current ++ Rollback tx ∷ []) (h.marks ++ more) new.files new.buffer disk)
-      → KeepsStore tells size now image can_leave left_at since found ds [] (record new { current = None; undo = undo }) disk
+      → KeepsStore tells size now image can_leave left_at since base found ds [] (record new { current = None; undo = undo }) disk
   rolled-keeps law pages T undo new disk undone none put replay log on =
       let after : Store = record s { files = new.files; buffer = new.buffer; replay = run s.replay (Rollback tx ∷ []); tables = before; current = None; undo = [] } in
       let same : record new { current = None; undo = undo } ≡ after =
       ap (λ (x : Store). let t : Store = record x { current = None; undo = undo } in t) put
       ∙ (λ i. let t : Store = record s { files = new.files; buffer = new.buffer; replay = replay i; tables = (undone ∙ back law) i; current = None; undo = none i } in t) in
-      subst (λ (x : Store). KeepsStore tells size now image can_leave left_at since found ds [] x disk) (sym same) (rollback-keeps pages new.files new.buffer disk log on)
+      subst (λ (x : Store). KeepsStore tells size now image can_leave left_at since base found ds [] x disk) (sym same) (rollback-keeps pages new.files new.buffer disk log on)

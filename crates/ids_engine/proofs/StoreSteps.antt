@@ -7,7 +7,7 @@ use Rattle.ids_outside.specs.Images.{Image}
 use Rattle.chunk_map.specs.declared.layout.Layout.{Layout}
 use Rattle.log_records.specs.Entries.{Entry, Begin, Commit}
 use Rattle.log_files.specs.Files.{Files, taken}
-use Rattle.log_buffer.specs.Buffers.{Buffer, empty_at}
+use Rattle.log_buffer.specs.Buffers.{Buffer, empty_at, waiting}
 use Rattle.log_buffer.specs.Kept.{Flushed, KeepsLog, Outlives}
 use Rattle.ids_model.specs.declared.effect.Effect.{Effect}
 use Rattle.ids_model.specs.Tables.{Tables, apply, apply_all}
@@ -26,7 +26,7 @@ use Rattle.ids_engine.specs.declared.placing.Placed.{Placed}
 use Rattle.ids_engine.specs.declared.placing.Placed.TheVariants.{Record}
 use Rattle.ids_model.specs.Covered.{IsBy}
 use Rattle.ids_engine.specs.Survival.{Done, tables_from, AreFirst, IsLeft, Survives}
-use Rattle.ids_engine.specs.Stores.{History, HasMark, MakesSoFar, entries_of, state_of, IsHistory, IsLogFor, KeepsStore, IsStore, SameTables, with_open, despite}
+use Rattle.ids_engine.specs.Stores.{History, filled, HasMark, MakesSoFar, entries_of, state_of, IsHistory, IsLogFor, KeepsStore, IsStore, SameTables, with_open, despite}
 use Rattle.ids_engine.specs.declared.store.Store.{Store}
 use Rattle.ids_engine.specs.declared.store.StoreFault.{StoreFault}
 use Rattle.ids_engine.specs.declared.store.StoreFault.TheVariants as faults
@@ -71,6 +71,7 @@ on_any_disk tells l found ds effects current h is = record {
   in_order = λ no. absurd no;
   placed = λ no. absurd no;
   began = λ no. absurd no;
+  closed = λ no. absurd no;
   quiet = is.quiet;
   logs = is.logs;
   all_done = is.all_done;
@@ -123,7 +124,7 @@ last_marked : (at : ℕ) (before : List Flushed) (n k : ℕ) (marks : List Flush
 last_marked at before n k marks same is = subst (λ (i : ℕ). HasMark at i marks) same (subst (HasMark at n) is (mark_last at n before))
 
 module _ {D : Type 0} (tells : Type 0) (size : D → ℕ → ℕ) (now : D → ℕ) (image : D → Image) (can_leave : D → Image → Type 0) (left_at : D → ℕ → Image → Type 0)
-    (since : ℕ) (found : Tables) (ds : List Done) (effects : List Effect) (s : Store) (d : D) (k : KeepsStore tells size now image can_leave left_at since found ds effects s d) where
+    (since : ℕ) (base : Image) (found : Tables) (ds : List Done) (effects : List Effect) (s : Store) (d : D) (k : KeepsStore tells size now image can_leave left_at since base found ds effects s d) where
   abbrev h : History
   h = k.history
 
@@ -142,10 +143,11 @@ module _ {D : Type 0} (tells : Type 0) (size : D → ℕ → ℕ) (now : D → �
   -- a BEGIN
   pub begin_keeps : (tx : ℕ) (files : Files) (buffer : Buffer) (disk : D) → s.current ≡ None → IsLogFor s.layout files buffer
       → ((more : List Flushed) × Logs (entries_of h s.current ++ Begin tx 1 ∷ []) (h.marks ++ more) files buffer disk)
-      → KeepsStore tells size now image can_leave left_at since found ds effects
+      → KeepsStore tells size now image can_leave left_at since base found ds effects
       (record s { files = files; buffer = buffer; replay = run s.replay (Begin tx 1 ∷ []); last_tx = tx; current = Some tx }) disk
   begin_keeps tx files buffer disk is log on = record {
     history = begun tells s.layout found ds effects h on.0;
+    opened = k.opened;
     holds = begins tells s.layout found ds effects h tx on.0 (holds_as None is);
     kept = subst (λ (es : List Entry). Logs es (h.marks ++ on.0) files buffer disk) (entries_as None (Begin tx 1) is ∙ begun_entries tells s.layout found ds effects h tx on.0) on.1;
     all_flushed = k.all_flushed;
@@ -163,10 +165,11 @@ module _ {D : Type 0} (tells : Type 0) (size : D → ℕ → ℕ) (now : D → �
       → in_place (page_count s.layout) s.replay.own e ≡ true → IsPagedState (page_count s.layout) (run s.replay (e ∷ []))
       → IsKept (run s.replay (e ∷ [])) (apply s.tables f) numbers greatest → IsLogFor s.layout files buffer
       → ((more : List Flushed) × Logs (entries_of h s.current ++ e ∷ []) (h.marks ++ more) files buffer disk)
-      → KeepsStore tells size now image can_leave left_at since found ds (effects ++ f ∷ [])
+      → KeepsStore tells size now image can_leave left_at since base found ds (effects ++ f ∷ [])
       (record s { files = files; buffer = buffer; replay = run s.replay (e ∷ []); tables = apply s.tables f; numbers = numbers; greatest = greatest; undo = s.undo ++ f ∷ [] }) disk
   change_keeps tx e f numbers greatest files buffer disk is makes placed paged memory log on = record {
     history = grown tells s.layout found ds effects h e on.0;
+    opened = k.opened;
     holds = subst (λ (o : Option ℕ). IsHistory tells s.layout found ds (effects ++ f ∷ []) o (grown tells s.layout found ds effects h e on.0)) (sym is)
         (changes tells s.layout found ds effects h tx e f on.0 (holds_as (Some tx) is)
         (subst (λ (x : State). in_place (page_count s.layout) x.own e ≡ true) (k.replay ∙ ap (state_of h) is) placed)
@@ -187,7 +190,7 @@ module _ {D : Type 0} (tells : Type 0) (size : D → ℕ → ℕ) (now : D → �
   pub placed_keeps : (old : Store) (placed : Placed) (tx : ℕ) (r : log.Record) (f : Effect) (files : Files) (buffer : Buffer) (disk : D) → KeptByRecords → RecordsKeepPages → SameTables old s → s.current ≡ Some tx
       → placed ≡ Record r → MakesIt old.replay old.tables tx f placed → StandsInPlace old (entry_of r) → GivesNumber (old.greatest + 1) f placed → IsOneChange f → IsLogFor s.layout files buffer
       → ((more : List Flushed) × Logs (entries_of h s.current ++ entry_of r ∷ []) (h.marks ++ more) files buffer disk)
-      → KeepsStore tells size now image can_leave left_at since found ds (effects ++ f ∷ [])
+      → KeepsStore tells size now image can_leave left_at since base found ds (effects ++ f ∷ [])
       (record s {
         files = files;
         buffer = buffer;
@@ -212,7 +215,7 @@ module _ {D : Type 0} (tells : Type 0) (size : D → ℕ → ℕ) (now : D → �
   -- a COMMIT, and a flush
   pub commit_keeps : (tx : ℕ) (more : List Flushed) (files : Files) (buffer : Buffer) (disk : D) → RecordsKeepPages → s.current ≡ Some tx → IsLogFor s.layout files buffer
       → Logs (entries_of h s.current ++ Commit tx ∷ []) ((h.marks ++ more) ++ record { at = now disk; count = length (entries_of h s.current ++ Commit tx ∷ []) } ∷ []) files buffer disk
-      → KeepsStore tells size now image can_leave left_at since found (ds ++ record { effects = effects; flushed = Some (now disk) } ∷ []) []
+      → KeepsStore tells size now image can_leave left_at since base found (ds ++ record { effects = effects; flushed = Some (now disk) } ∷ []) []
       (record s { files = files; buffer = buffer; replay = run s.replay (Commit tx ∷ []); current = None; undo = [] }) disk
   commit_keeps tx more files buffer disk pages is log on =
       let last : Flushed = record { at = now disk; count = length (entries_of h s.current ++ Commit tx ∷ []) } in
@@ -222,6 +225,7 @@ module _ {D : Type 0} (tells : Type 0) (size : D → ℕ → ℕ) (now : D → �
       let h' : History = ended tells s.layout found ds effects h true tx (more ++ last ∷ []) in
       record {
         history = h';
+        opened = k.opened;
         holds = commits tells s.layout found ds effects h tx (Some (now disk)) (more ++ last ∷ []) (holds_as (Some tx) is)
             (last_marked (now disk) (h.marks ++ more) (length (entries_of h s.current ++ Commit tx ∷ [])) (length (entries_of h (Some tx) ++ Commit tx ∷ [])) (h.marks ++ (more ++ last ∷ [])) counted marks);
         kept = subst (λ (ms : List Flushed). Logs (entries_of h' None) ms files buffer disk) marks
@@ -241,13 +245,13 @@ module _ {D : Type 0} (tells : Type 0) (size : D → ℕ → ℕ) (now : D → �
   pub begun_keeps : (tx : ℕ) (new : Store) (disk : D) → s.current ≡ None → new ≡ record s { files = new.files; buffer = new.buffer; replay = new.replay }
       → new.replay ≡ run s.replay (Begin tx 1 ∷ []) → IsLogFor s.layout new.files new.buffer
       → ((more : List Flushed) × Logs (entries_of h s.current ++ Begin tx 1 ∷ []) (h.marks ++ more) new.files new.buffer disk)
-      → KeepsStore tells size now image can_leave left_at since found ds effects (record new { last_tx = tx; current = Some tx }) disk
+      → KeepsStore tells size now image can_leave left_at since base found ds effects (record new { last_tx = tx; current = Some tx }) disk
   begun_keeps tx new disk is put replay log on =
       let after : Store = record s { files = new.files; buffer = new.buffer; replay = run s.replay (Begin tx 1 ∷ []); last_tx = tx; current = Some tx } in
       let same : record new { last_tx = tx; current = Some tx } ≡ after =
       ap (λ (x : Store). let t : Store = record x { last_tx = tx; current = Some tx } in t) put
       ∙ ap (λ (x : State). let t : Store = record s { files = new.files; buffer = new.buffer; replay = x; last_tx = tx; current = Some tx } in t) replay in
-      subst (λ (x : Store). KeepsStore tells size now image can_leave left_at since found ds effects x disk) (sym same) (begin_keeps tx new.files new.buffer disk is log on)
+      subst (λ (x : Store). KeepsStore tells size now image can_leave left_at since base found ds effects x disk) (sym same) (begin_keeps tx new.files new.buffer disk is log on)
 
   pub changed_keeps : (old : Store) (placed : Placed) (tx : ℕ) (r : log.Record) (f : Effect) (new last : Store) (disk : D) → KeptByRecords → RecordsKeepPages → SameTables old s → s.current ≡ Some tx
       → placed ≡ Record r → MakesIt old.replay old.tables tx f placed → StandsInPlace old (entry_of r) → GivesNumber (old.greatest + 1) f placed → IsOneChange f
@@ -255,7 +259,7 @@ module _ {D : Type 0} (tells : Type 0) (size : D → ℕ → ℕ) (now : D → �
       → last ≡ record new { tables = apply new.tables f; numbers = numbers_after new.numbers new.greatest f; greatest = greatest_after new.greatest f; undo = new.undo ++ f ∷ [] }
       → IsLogFor s.layout new.files new.buffer
       → ((more : List Flushed) × Logs (entries_of h s.current ++ entry_of r ∷ []) (h.marks ++ more) new.files new.buffer disk)
-      → KeepsStore tells size now image can_leave left_at since found ds (effects ++ f ∷ []) last disk
+      → KeepsStore tells size now image can_leave left_at since base found ds (effects ++ f ∷ []) last disk
   changed_keeps old placed tx r f new last disk law pages same is found_is makes stands number new_row put replay last_is log_is on =
       let after : last ≡ record s {
         files = new.files;
@@ -269,14 +273,14 @@ module _ {D : Type 0} (tells : Type 0) (size : D → ℕ → ℕ) (now : D → �
       last_is
       ∙ ap (λ (x : Store). let t : Store = record x { tables = apply x.tables f; numbers = numbers_after x.numbers x.greatest f; greatest = greatest_after x.greatest f; undo = x.undo ++ f ∷ [] } in t) put
       ∙ ap (λ (x : State). let t : Store = record s { files = new.files; buffer = new.buffer; replay = x; tables = apply s.tables f; numbers = numbers_after s.numbers s.greatest f; greatest = greatest_after s.greatest f; undo = s.undo ++ f ∷ [] } in t) replay in
-      subst (λ (x : Store). KeepsStore tells size now image can_leave left_at since found ds (effects ++ f ∷ []) x disk) (sym after)
+      subst (λ (x : Store). KeepsStore tells size now image can_leave left_at since base found ds (effects ++ f ∷ []) x disk) (sym after)
       (placed_keeps old placed tx r f new.files new.buffer disk law pages same is found_is makes stands number new_row log_is on)
 
   pub committed_keeps : (tx n : ℕ) (more : List Flushed) (new : Store) (files : Files) (buffer : Buffer) (undo : List Effect) (disk : D) → RecordsKeepPages → s.current ≡ Some tx → undo ≡ []
       → new ≡ record s { files = new.files; buffer = new.buffer; replay = new.replay } → new.replay ≡ run s.replay (Commit tx ∷ []) → IsLogFor s.layout new.files new.buffer
       → files ≡ taken new.files n → buffer ≡ empty_at (new.buffer.first + length new.buffer.blocks)
       → Logs (entries_of h s.current ++ Commit tx ∷ []) ((h.marks ++ more) ++ record { at = now disk; count = length (entries_of h s.current ++ Commit tx ∷ []) } ∷ []) files buffer disk
-      → KeepsStore tells size now image can_leave left_at since found (ds ++ record { effects = effects; flushed = Some (now disk) } ∷ []) []
+      → KeepsStore tells size now image can_leave left_at since base found (ds ++ record { effects = effects; flushed = Some (now disk) } ∷ []) []
       (record new { files = files; buffer = buffer; current = None; undo = undo }) disk
   committed_keeps tx n more new files buffer undo disk pages is none put replay put_log moved emptied on =
       let l = s.layout in
@@ -289,20 +293,23 @@ module _ {D : Type 0} (tells : Type 0) (size : D → ℕ → ℕ) (now : D → �
       subst (λ (b : Buffer). b.first ≤ 1 + l.logs * l.log_size) (sym emptied) (omega (arith, ends_within l new.files new.buffer put_log)) in
       let below : 1 ≤ length buffer.blocks → buffer.first + length buffer.blocks ≤ l.logs * l.log_size =
       subst (λ (b : Buffer). 1 ≤ length b.blocks → b.first + length b.blocks ≤ l.logs * l.log_size) (sym emptied) (λ some. absurd (omega (arith, some))) in
+      let packed : buffer ≡ filled (empty_at buffer.first) (waiting buffer) = subst (λ (b : Buffer). b ≡ filled (empty_at b.first) (waiting b)) (sym emptied) refl in
       let next : files ≡ record new.files { next = files.next } =
       moved ∙ ap (λ (n : ℕ). let t : Files = record new.files { next = n } in t) (sym (ap (λ (f : Files). f.next) moved)) in
-      subst (λ (x : Store). KeepsStore tells size now image can_leave left_at since found (ds ++ record { effects = effects; flushed = Some (now disk) } ∷ []) [] x disk) (sym same)
-      (commit_keeps tx more files buffer disk pages is (log_for l new.files files new.buffer buffer put_log next within below) on)
+      subst (λ (x : Store). KeepsStore tells size now image can_leave left_at since base found (ds ++ record { effects = effects; flushed = Some (now disk) } ∷ []) [] x disk) (sym same)
+      (commit_keeps tx more files buffer disk pages is (log_for l new.files files new.buffer buffer put_log next within below packed) on)
 
   -- The same store, where nothing is said of the disk's bytes.
   pub is_sound : IsStore ⊥ size now image can_leave left_at s d
   is_sound = record {
     since = since;
+    base = base;
     found = found;
     done = ds;
     effects = effects;
     keeps = record {
       history = h;
+      opened = k.opened;
       holds = on_any_disk tells s.layout found ds effects s.current h k.holds;
       kept = k.kept;
       all_flushed = k.all_flushed;

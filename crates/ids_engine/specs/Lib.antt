@@ -6,3 +6,4 @@ pub mod Survival
 pub mod Stores
 pub mod Openings
 pub mod Journals
+pub mod OutOfBlocks

@@ -7,14 +7,14 @@ use Rattle.chunk_map.specs.declared.layout.Layout.{Layout}
 use Rattle.chunk_map.specs.Layouts.{IsLayout}
 use Rattle.log_records.specs.Entries.{Entry, Begin}
 use Rattle.log_files.specs.Files.{Files}
-use Rattle.log_buffer.specs.Buffers.{Buffer}
+use Rattle.log_buffer.specs.Buffers.{Buffer, empty_at, waiting, appended}
 use Rattle.log_buffer.specs.Kept.{Flushed, KeepsLog}
 use Rattle.ids_model.specs.declared.effect.Effect.{Effect}
 use Rattle.ids_model.specs.Tables.{Tables, apply_all}
 use Rattle.ids_model.specs.Recovered.{State, nothing, run}
 use Rattle.ids_model.specs.Logged.{Logged, records_of, log_of, tables_after, MakesAll, IsLogOf, IsQuiet, IsRecovered}
 use Rattle.fast_recovery.specs.Images.{HasEmptyBase, log_in, log_region, page_count}
-use Rattle.fast_recovery.specs.Order.{open_in}
+use Rattle.fast_recovery.specs.Order.{open_in, closing}
 use Rattle.fast_recovery.specs.InPlace.{all_in_place}
 use Rattle.fast_recovery.specs.PagedStates.{IsPagedState}
 use Rattle.ids_engine.specs.Kept.{IsKept}
@@ -88,24 +88,32 @@ pub record IsHistory (tells : Type 0) (l : Layout) (found : Tables) (done : List
   -- and each record, old or since, is in its place
   pub placed : tells → all_in_place (page_count l) empty (h.before ++ entries_of h current) ≡ true
   pub began : tells → h.start ≡ run nothing (h.before ++ h.closing)
+  pub closed : tells → (last : Option ℕ) × (open_in None h.before ≡ Some last) × (h.closing ≡ closing last)
   pub quiet : IsQuiet h.start found
   pub logs : IsLogOf h.start found h.logged
   pub all_done : AreDone (length h.closing) h.logged done h.marks
   pub makes : MakesSoFar (run h.start (log_of h.logged)) (tables_after found h.logged) current h.changes effects
 
--- the files and the buffer are those of the layout's log; a block that is begun is not the last one of it
+-- a buffer after more records
+abbrev pub filled : Buffer → List Entry → Buffer
+filled b [] = b
+filled b (e ∷ es) = filled (appended b e) es
+
+-- the files and the buffer are those of the layout's log; a block is begun only where the last one has no room, and is not the last one of the log
 pub record IsLogFor (l : Layout) (files : Files) (buffer : Buffer) : Type 0 where
   pub region : files.region ≡ log_region l
   pub first : files.first ≡ 1
   pub limit : files.limit ≡ 1 + l.logs * l.log_size
   pub next : buffer.first ≤ files.limit
   pub below : 1 ≤ length buffer.blocks → buffer.first + length buffer.blocks ≤ l.logs * l.log_size
+  pub packed : buffer ≡ filled (empty_at buffer.first) (waiting buffer)
 
--- The store of a session that found some tables, whose transactions that were committed since are these, and whose open transaction made these effects. The
+-- The store of a session that opened an image and found some tables, whose transactions that were committed since are these, and whose open transaction made these effects. The
 -- last one is quiet where there are no effects.
 pub record KeepsStore {D : Type 0} (tells : Type 0) (size : D → ℕ → ℕ) (now : D → ℕ) (image : D → Image) (can_leave : D → Image → Type 0) (left_at : D → ℕ → Image → Type 0)
-    (since : ℕ) (found : Tables) (done : List Done) (effects : List Effect) (store : Store) (disk : D) : Type 0 where
+    (since : ℕ) (base : Image) (found : Tables) (done : List Done) (effects : List Effect) (store : Store) (disk : D) : Type 0 where
   pub history : History
+  pub opened : history.base ≡ base
   pub holds : IsHistory tells store.layout found done effects store.current history
   pub kept : KeepsLog size now image can_leave left_at since history.base history.before (entries_of history store.current) history.marks store.files store.buffer disk
   pub all_flushed : AllByRecursion (λ (d : Done). IsSome d.flushed) done
@@ -121,10 +129,11 @@ pub record KeepsStore {D : Type 0} (tells : Type 0) (size : D → ℕ → ℕ) (
 pub record IsStore {D : Type 0} (tells : Type 0) (size : D → ℕ → ℕ) (now : D → ℕ) (image : D → Image) (can_leave : D → Image → Type 0) (left_at : D → ℕ → Image → Type 0)
     (store : Store) (disk : D) : Type 0 where
   pub since : ℕ
+  pub base : Image
   pub found : Tables
   pub done : List Done
   pub effects : List Effect
-  pub keeps : KeepsStore tells size now image can_leave left_at since found done effects store disk
+  pub keeps : KeepsStore tells size now image can_leave left_at since base found done effects store disk
 
 -- the number of the open transaction, or the one behind the last number where none is open
 abbrev pub IsNextTx : Option ℕ → ℕ → ℕ → Type 0

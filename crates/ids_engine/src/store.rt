@@ -10,7 +10,7 @@ ghost use Rattle.log_records.specs.Entries.{Entry};
 ghost use Rattle.log_records.specs.Says.{entry_of};
 ghost use Rattle.log_records.specs.Spelling.{entry_size};
 ghost use Rattle.log_files.specs.Files.{IsReady};
-ghost use Rattle.log_buffer.specs.Buffers.{has_room, block_for};
+ghost use Rattle.log_buffer.specs.Buffers.{IsBuffer, empty_at, waiting, has_room, block_for};
 ghost use Rattle.log_buffer.specs.Kept.{Flushed, KeepsLog, Outlives};
 ghost use Rattle.ids_model.specs.declared.effect.Effect.{Effect};
 ghost use Rattle.ids_model.specs.Tables.{Tables, apply};
@@ -20,7 +20,8 @@ ghost use Rattle.ids_model.specs.Undone.{undo_all};
 ghost use Rattle.ids_engine.specs.Kept.{numbers_after, greatest_after};
 ghost use Rattle.ids_engine.specs.Placing.{IsOneChange, TakesRow, IsOwnerFor, IsFull};
 ghost use Rattle.ids_engine.specs.Survival.{Done, Survives, tables_from};
-ghost use Rattle.ids_engine.specs.Stores.{KeepsStore, IsStore, IsLogFor, HasOpen, IsNextTx, OnDone, OnNoSpace, SameTables, last_after, with_open, despite};
+ghost use Rattle.ids_engine.specs.Stores.{KeepsStore, IsStore, IsLogFor, filled, HasOpen, IsNextTx, OnDone, OnNoSpace, SameTables, last_after, with_open, despite};
+ghost use Rattle.ids_engine.specs.OutOfBlocks.{NeedsBlock, IsOutOfBlocks};
 ghost use Rattle.ids_engine.specs.declared.placing.Placed.TheVariants as placed;
 ghost use Rattle.ids_engine.specs.declared.store.Changed.TheVariants as changes;
 ghost use Rattle.ids_engine.specs.declared.store.StoreFault.TheVariants as faults;
@@ -119,9 +120,9 @@ impl Store {
         requires fits { FitsOne self.old.tables effect.now }
         requires one { IsOneChange effect.now }
 
-        ensures done { IfOk result (λ came. OnDone came ((since : ℕ) (found : Tables) (done : List Done) (effects : List Effect)
-            → KeepsStore D.tells D.size D.now D.image D.can_leave D.left_at since found done effects self.old disk.old
-            → KeepsStore D.tells D.size D.now D.image D.can_leave D.left_at since found done (effects ++ effect.now ∷ []) self.new disk.new)) }
+        ensures done { IfOk result (λ came. OnDone came ((since : ℕ) (base : Image) (found : Tables) (done : List Done) (effects : List Effect)
+            → KeepsStore D.tells D.size D.now D.image D.can_leave D.left_at since base found done effects self.old disk.old
+            → KeepsStore D.tells D.size D.now D.image D.can_leave D.left_at since base found done (effects ++ effect.now ∷ []) self.new disk.new)) }
         ensures tables { IfOk result (λ came. OnDone came (self.new.tables ≡ apply self.old.tables effect.now)) }
         ensures opened { IfOk result (λ came. OnDone came (HasOpen self.old self.new)) }
         ensures noted { IfOk result (λ came. OnDone came (self.new.undo ≡ self.old.undo ++ effect.now ∷ [])) }
@@ -131,10 +132,14 @@ impl Store {
         ensures full { IfOk result (λ came. OnNoSpace came (λ rows pages. (owner : ℕ × ℕ) → IsOwnerFor self.old.tables self.old.numbers effect.now owner
             → IsFull self.old.replay owner (self.old.layout.chunks * self.old.layout.data_pages) self.old.greatest effect.now (placed.NoSpace rows pages))) }
         ensures gone { IfOk result (λ came. TakesRow effect.now → came ≡ changes.Done) }
-        ensures err { OnErr result ((since : ℕ) (found : Tables) (done : List Done) (effects : List Effect)
-            → KeepsStore D.tells D.size D.now D.image D.can_leave D.left_at since found done effects self.old disk.old
+        ensures err { OnErr result ((since : ℕ) (base : Image) (found : Tables) (done : List Done) (effects : List Effect)
+            → KeepsStore D.tells D.size D.now D.image D.can_leave D.left_at since base found done effects self.old disk.old
             → Survives D.now D.left_at since found done disk.new) }
         ensures log_full { result ≡ Err faults.LogFull → self.old.layout.logs * self.old.layout.log_size ≤ self.old.buffer.first + length self.old.buffer.blocks + 1 }
+        // The log then stands as it did.
+        ensures out_of_blocks { result ≡ Err faults.LogFull → (since : ℕ) (base : Image) (found : Tables) (done : List Done) (effects : List Effect)
+            → KeepsStore D.tells D.size D.now D.image D.can_leave D.left_at since base found done effects self.old disk.old
+            → IsOutOfBlocks D.tells D.size D.now D.image D.can_leave D.left_at since base found done self.new disk.new }
         ensures later { D.now disk.old ≤ D.now disk.new }
         ensures counted { D.fault_count disk.old ≤ D.fault_count disk.new }
         ensures cause { result ≡ Err faults.Disk → Rose (D.fault_count disk.old) (D.fault_count disk.new) }
@@ -171,18 +176,22 @@ impl Store {
     pub fn commit<D: Disk>(&mut self, disk: &mut D) -> Result<(), StoreFault>
         requires sound { IsStore ⊥ D.size D.now D.image D.can_leave D.left_at self.old disk.old }
 
-        ensures ok { OnOk result ((since : ℕ) (found : Tables) (done : List Done) (effects : List Effect)
-            → KeepsStore D.tells D.size D.now D.image D.can_leave D.left_at since found done effects self.old disk.old
-            → KeepsStore D.tells D.size D.now D.image D.can_leave D.left_at since found (with_open self.old.current done effects (Some (D.now disk.new))) [] self.new disk.new) }
+        ensures ok { OnOk result ((since : ℕ) (base : Image) (found : Tables) (done : List Done) (effects : List Effect)
+            → KeepsStore D.tells D.size D.now D.image D.can_leave D.left_at since base found done effects self.old disk.old
+            → KeepsStore D.tells D.size D.now D.image D.can_leave D.left_at since base found (with_open self.old.current done effects (Some (D.now disk.new))) [] self.new disk.new) }
         ensures tables { OnOk result (self.new.tables ≡ self.old.tables) }
         ensures closed { OnOk result (self.new.current ≡ None) }
         ensures last { OnOk result (self.new.last_tx ≡ self.old.last_tx) }
         // Also on a disk that does not tell its bytes.
         ensures sound { OnOk result (IsStore ⊥ D.size D.now D.image D.can_leave D.left_at self.new disk.new) }
-        ensures err { IfErr result (λ e. (since : ℕ) (found : Tables) (done : List Done) (effects : List Effect)
-            → KeepsStore D.tells D.size D.now D.image D.can_leave D.left_at since found done effects self.old disk.old
+        ensures err { IfErr result (λ e. (since : ℕ) (base : Image) (found : Tables) (done : List Done) (effects : List Effect)
+            → KeepsStore D.tells D.size D.now D.image D.can_leave D.left_at since base found done effects self.old disk.old
             → Survives D.now D.left_at since found (despite e done effects) disk.new) }
         ensures log_full { result ≡ Err faults.LogFull → self.old.layout.logs * self.old.layout.log_size ≤ block_for self.old.buffer 11 }
+        // The log then stands as it did.
+        ensures out_of_blocks { result ≡ Err faults.LogFull → (since : ℕ) (base : Image) (found : Tables) (done : List Done) (effects : List Effect)
+            → KeepsStore D.tells D.size D.now D.image D.can_leave D.left_at since base found done effects self.old disk.old
+            → IsOutOfBlocks D.tells D.size D.now D.image D.can_leave D.left_at since base found done self.new disk.new }
         ensures later { D.now disk.old ≤ D.now disk.new }
         ensures counted { D.fault_count disk.old ≤ D.fault_count disk.new }
         ensures cause { result ≡ Err faults.Disk → Rose (D.fault_count disk.old) (D.fault_count disk.new) }
@@ -205,11 +214,11 @@ impl Store {
     pub fn rollback<D: Disk>(&mut self, disk: &mut D) -> Result<(), StoreFault>
         requires sound { IsStore ⊥ D.size D.now D.image D.can_leave D.left_at self.old disk.old }
 
-        ensures ok { OnOk result ((since : ℕ) (found : Tables) (done : List Done) (effects : List Effect)
-            → KeepsStore D.tells D.size D.now D.image D.can_leave D.left_at since found done effects self.old disk.old
-            → KeepsStore D.tells D.size D.now D.image D.can_leave D.left_at since found done [] self.new disk.new) }
-        ensures tables { OnOk result ((since : ℕ) (found : Tables) (done : List Done) (effects : List Effect)
-            → KeepsStore D.tells D.size D.now D.image D.can_leave D.left_at since found done effects self.old disk.old
+        ensures ok { OnOk result ((since : ℕ) (base : Image) (found : Tables) (done : List Done) (effects : List Effect)
+            → KeepsStore D.tells D.size D.now D.image D.can_leave D.left_at since base found done effects self.old disk.old
+            → KeepsStore D.tells D.size D.now D.image D.can_leave D.left_at since base found done [] self.new disk.new) }
+        ensures tables { OnOk result ((since : ℕ) (base : Image) (found : Tables) (done : List Done) (effects : List Effect)
+            → KeepsStore D.tells D.size D.now D.image D.can_leave D.left_at since base found done effects self.old disk.old
             → self.new.tables ≡ tables_from found done) }
         ensures undone { OnOk result (self.new.tables ≡ undo_all self.old.tables self.old.undo) }
         ensures closed { OnOk result (self.new.current ≡ None) }
@@ -218,10 +227,14 @@ impl Store {
         ensures greatest { OnOk result (self.new.greatest ≡ self.old.greatest) }
         // Also on a disk that does not tell its bytes.
         ensures sound { OnOk result (IsStore ⊥ D.size D.now D.image D.can_leave D.left_at self.new disk.new) }
-        ensures err { OnErr result ((since : ℕ) (found : Tables) (done : List Done) (effects : List Effect)
-            → KeepsStore D.tells D.size D.now D.image D.can_leave D.left_at since found done effects self.old disk.old
+        ensures err { OnErr result ((since : ℕ) (base : Image) (found : Tables) (done : List Done) (effects : List Effect)
+            → KeepsStore D.tells D.size D.now D.image D.can_leave D.left_at since base found done effects self.old disk.old
             → Survives D.now D.left_at since found done disk.new) }
         ensures log_full { result ≡ Err faults.LogFull → self.old.layout.logs * self.old.layout.log_size ≤ block_for self.old.buffer 11 }
+        // The log then stands as it did.
+        ensures out_of_blocks { result ≡ Err faults.LogFull → (since : ℕ) (base : Image) (found : Tables) (done : List Done) (effects : List Effect)
+            → KeepsStore D.tells D.size D.now D.image D.can_leave D.left_at since base found done effects self.old disk.old
+            → IsOutOfBlocks D.tells D.size D.now D.image D.can_leave D.left_at since base found done self.new disk.new }
         ensures later { D.now disk.old ≤ D.now disk.new }
         ensures counted { D.fault_count disk.old ≤ D.fault_count disk.new }
         ensures cause { result ≡ Err faults.Disk → Rose (D.fault_count disk.old) (D.fault_count disk.new) }
@@ -258,18 +271,22 @@ impl Store {
         requires sound { IsStore ⊥ D.size D.now D.image D.can_leave D.left_at self.old disk.old }
         requires next { IsNextTx self.old.current self.old.last_tx tx }
 
-        ensures kept { OnOk result ((since : ℕ) (found : Tables) (done : List Done) (effects : List Effect)
-            → KeepsStore D.tells D.size D.now D.image D.can_leave D.left_at since found done effects self.old disk.old
-            → KeepsStore D.tells D.size D.now D.image D.can_leave D.left_at since found done effects self.new disk.new) }
+        ensures kept { OnOk result ((since : ℕ) (base : Image) (found : Tables) (done : List Done) (effects : List Effect)
+            → KeepsStore D.tells D.size D.now D.image D.can_leave D.left_at since base found done effects self.old disk.old
+            → KeepsStore D.tells D.size D.now D.image D.can_leave D.left_at since base found done effects self.new disk.new) }
         ensures sound { OnOk result (IsStore ⊥ D.size D.now D.image D.can_leave D.left_at self.new disk.new) }
         ensures current { OnOk result (self.new.current ≡ Some tx) }
         ensures last { OnOk result (self.new.last_tx ≡ last_after self.old.current self.old.last_tx) }
         ensures same { OnOk result (SameTables self.old self.new) }
         ensures longer { OnOk result (self.new.buffer.first + length self.new.buffer.blocks ≤ self.old.buffer.first + length self.old.buffer.blocks + 1) }
-        ensures err { OnErr result ((since : ℕ) (found : Tables) (done : List Done) (effects : List Effect)
-            → KeepsStore D.tells D.size D.now D.image D.can_leave D.left_at since found done effects self.old disk.old
+        ensures err { OnErr result ((since : ℕ) (base : Image) (found : Tables) (done : List Done) (effects : List Effect)
+            → KeepsStore D.tells D.size D.now D.image D.can_leave D.left_at since base found done effects self.old disk.old
             → Survives D.now D.left_at since found done disk.new) }
         ensures log_full { result ≡ Err faults.LogFull → self.old.layout.logs * self.old.layout.log_size ≤ block_for self.old.buffer 15 }
+        // The log then stands as it did.
+        ensures out_of_blocks { result ≡ Err faults.LogFull → (since : ℕ) (base : Image) (found : Tables) (done : List Done) (effects : List Effect)
+            → KeepsStore D.tells D.size D.now D.image D.can_leave D.left_at since base found done effects self.old disk.old
+            → IsOutOfBlocks D.tells D.size D.now D.image D.can_leave D.left_at since base found done self.new disk.new }
         ensures later { D.now disk.old ≤ D.now disk.new }
         ensures counted { D.fault_count disk.old ≤ D.fault_count disk.new }
         ensures cause { result ≡ Err faults.Disk → Rose (D.fault_count disk.old) (D.fault_count disk.new) }
@@ -321,13 +338,16 @@ impl Store {
             → KeepsLog D.size D.now D.image D.can_leave D.left_at since base before all marks self.old.files self.old.buffer disk.old
             → Outlives D.now D.left_at since base before all marks self.old.files disk.new) }
         ensures log_full { result ≡ Err faults.LogFull → self.old.layout.logs * self.old.layout.log_size ≤ block_for self.old.buffer (entry_size (entry_of record.now)) }
+        ensures needs { result ≡ Err faults.LogFull → NeedsBlock self.old.layout self.old.buffer × IsBuffer self.old.buffer × (self.old.files.first ≤ self.old.files.next) }
+        ensures unchanged { result ≡ Err faults.LogFull → (self.new ≡ self.old) × (disk.new ≡ disk.old) }
         ensures later { D.now disk.old ≤ D.now disk.new }
         ensures counted { D.fault_count disk.old ≤ D.fault_count disk.new }
         ensures cause { result ≡ Err faults.Disk → Rose (D.fault_count disk.old) (D.fault_count disk.new) }
         ensures sizes { (j : ℕ) → D.size disk.new j ≡ D.size disk.old j }
     {
         appends_keep::<D>();
-        let size = record.size();
+        is_log(&self.files, &self.buffer);
+        let size = size_of(record);
         if self.buffer.block_for(size) >= blocks_of(&self.layout) {
             return Err(StoreFault::LogFull);
         }
@@ -336,6 +356,34 @@ impl Store {
         self.buffer.append(record);
         Ok(())
     }
+}
+
+// A law of the files and the buffer of a log.
+fn is_log(files: &LogFiles, buffer: &LogBuffer)
+    ensures order { files.now.first ≤ files.now.next }
+    ensures blocks { IsBuffer buffer.now }
+{
+    let _ = files.region();
+    let _ = buffer.block_count();
+}
+
+// The size of a record.
+fn size_of(entry: &Record) -> u16
+    ensures size { result ≡ entry_size (entry_of entry.now) }
+    ensures least { 11 ≤ result }
+    ensures most { result ≤ 1621 }
+{
+    match entry {
+        Record::Begin { .. } | Record::Commit { .. } | Record::Rollback { .. } => {}
+        Record::HInsert { after, .. } => prove!(after.bytes().len() <= 800),
+        Record::HDelete { before, .. } => prove!(before.bytes().len() <= 800),
+        Record::HUpdate { rows, .. } => {
+            prove!(rows.before.bytes().len() <= 800);
+            prove!(rows.after.bytes().len() <= 800);
+        }
+        Record::Ckpoint { named } => prove!(named.as_slice().len() <= 64),
+    }
+    entry.size()
 }
 
 // The blocks of the log.
@@ -371,6 +419,7 @@ fn make_room<D: Disk>(
     ensures place { OnOk result (block_for buffer.new size ≡ block_for buffer.old size) }
     ensures end { OnOk result (buffer.new.first + length buffer.new.blocks ≡ buffer.old.first + length buffer.old.blocks) }
     ensures files { OnOk result (files.new ≡ record files.old { next = files.new.next }) }
+    ensures packed { OnOk result (buffer.old ≡ filled (empty_at buffer.old.first) (waiting buffer.old) → buffer.new ≡ filled (empty_at buffer.new.first) (waiting buffer.new)) }
     ensures kept { OnOk result ((since : ℕ) (base : Image) (before all : List Entry) (marks : List Flushed)
         → KeepsLog D.size D.now D.image D.can_leave D.left_at since base before all marks files.old buffer.old disk.old
         → (more : List Flushed) × KeepsLog D.size D.now D.image D.can_leave D.left_at since base before all (marks ++ more) files.new buffer.new disk.new) }

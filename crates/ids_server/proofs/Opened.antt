@@ -92,18 +92,18 @@ module _ {D : Type 0} (tells : Type 0) (now : D → ℕ) (image : D → Image) (
 module _ {D : Type 0} (tells : Type 0) (size : D → ℕ → ℕ) (now : D → ℕ) (image : D → Image) (can_leave : D → Image → Type 0) (left_at : D → ℕ → Image → Type 0) where
   -- a runner that was made of a store keeps what the store keeps
   pub keeps_at_start : (runner : Runner) (store : Store) → running_of runner ≡ record { tables = store.tables; inside = None; journal = []; given = [] } → runner.store ≡ store
-      → (since : ℕ) (found : Tables) (disk : D) → KeepsStore tells size now image can_leave left_at since found [] [] store disk → KeepsRun tells size now image can_leave left_at since found runner disk
-  keeps_at_start runner store fresh same since found disk keeps =
-      subst (λ (s : Store). KeepsStore tells size now image can_leave left_at since found (done_of runner.journal.items) (effects_of runner.inside) s disk) (sym same)
-      (subst (λ (r : Running). KeepsStore tells size now image can_leave left_at since found (done_of r.journal) (effects_of r.inside) store disk) (sym fresh) keeps)
+      → (since : ℕ) (base : Image) (found : Tables) (disk : D) → KeepsStore tells size now image can_leave left_at since base found [] [] store disk → KeepsRun tells size now image can_leave left_at since base found runner disk
+  keeps_at_start runner store fresh same since base found disk keeps =
+      subst (λ (s : Store). KeepsStore tells size now image can_leave left_at since base found (done_of runner.journal.items) (effects_of runner.inside) s disk) (sym same)
+      (subst (λ (r : Running). KeepsStore tells size now image can_leave left_at since base found (done_of r.journal) (effects_of r.inside) store disk) (sym fresh) keeps)
 
   -- A run over the store that was made of a disk: the tables that were found are the store's.
   pub runs_over : RunLaws → ((d : D) (m : ℕ) (c : Image) → left_at d m c → tells) → (bytes : List ℕ) (store : Store) (old opened new : D) (status : Status) (journal : List Committed) (given : List Given)
       → InGrammar bytes
       → ((T : Tables) → tells → Recovers (image old) T → HasFound tells size now image can_leave left_at store old opened T)
       → ((script : Script) → IsScriptOf bytes script → HasRun script store.tables status journal given)
-      → ((since : ℕ) (found : Tables) → KeepsStore tells size now image can_leave left_at since found [] [] store opened → Survives now left_at since found (done_of journal) new)
-      → (status ≡ Done → (since : ℕ) (found : Tables) → KeepsStore tells size now image can_leave left_at since found [] [] store opened
+      → ((since : ℕ) (base : Image) (found : Tables) → KeepsStore tells size now image can_leave left_at since base found [] [] store opened → Survives now left_at since found (done_of journal) new)
+      → (status ≡ Done → (since : ℕ) (base : Image) (found : Tables) → KeepsStore tells size now image can_leave left_at since base found [] [] store opened
       → (c : Image) → can_leave new c → Recovers c (tables_from found (done_of journal)))
       → RunsFrom tells now image can_leave left_at bytes store.tables old new status journal given
   runs_over laws left_tells bytes store old opened new status journal given grammar finds has_run survives at_end =
@@ -122,9 +122,9 @@ module _ {D : Type 0} (tells : Type 0) (size : D → ℕ → ℕ) (now : D → �
         any_moment = λ bound T recovers m c counted left.
             let found = finds T (left_tells new m c left) recovers in
             leaves_first laws.covered store.tables T journal m c found.tables ran.timely
-            (survives m store.tables (found.keeps m (is-since now image can_leave old (HasBegun status given) m counted)) bound m c (omega arith) left);
+            (survives m (image old) store.tables (found.keeps m (is-since now image can_leave old (HasBegun status given) m counted)) bound m c (omega arith) left);
         at_end = λ done t T recovers c leave.
             let found = finds T t recovers in
             subst (Recovers c) (sym (ap (λ (F : Tables). fold_journal F journal) found.tables ∙ sym (laws.leave store.tables journal)))
-            (at_end done (now old + 1) store.tables (found.keeps (now old + 1) (inr (omega arith))) c leave);
+            (at_end done (now old + 1) (image old) store.tables (found.keeps (now old + 1) (inr (omega arith))) c leave);
       }

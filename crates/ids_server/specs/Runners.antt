@@ -19,9 +19,9 @@ abbrev pub running_of : Runner → Running
 running_of r = record { tables = r.store.tables; inside = r.inside; journal = r.journal.items; given = r.given.items }
 
 -- its store keeps the transactions of the journal, and the open one
-abbrev pub KeepsRun : {D : Type 0} → Type 0 → (D → ℕ → ℕ) → (D → ℕ) → (D → Image) → (D → Image → Type 0) → (D → ℕ → Image → Type 0) → ℕ → Tables → Runner → D → Type 0
-KeepsRun {D} tells size now image can_leave left_at since found r disk =
-    KeepsStore tells size now image can_leave left_at since found (done_of r.journal.items) (effects_of r.inside) r.store disk
+abbrev pub KeepsRun : {D : Type 0} → Type 0 → (D → ℕ → ℕ) → (D → ℕ) → (D → Image) → (D → Image → Type 0) → (D → ℕ → Image → Type 0) → ℕ → Image → Tables → Runner → D → Type 0
+KeepsRun {D} tells size now image can_leave left_at since base found r disk =
+    KeepsStore tells size now image can_leave left_at since base found (done_of r.journal.items) (effects_of r.inside) r.store disk
 
 -- its store is one, whatever the disk tells, and has the effects of the open transaction noted
 pub record HasStore {D : Type 0} (size : D → ℕ → ℕ) (now : D → ℕ) (image : D → Image) (can_leave : D → Image → Type 0) (left_at : D → ℕ → Image → Type 0) (r : Runner) (disk : D) : Type 0 where

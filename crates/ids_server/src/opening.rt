@@ -1,5 +1,5 @@
 //! Opening the disk for a script, running it, and formatting a disk.
-ghost use Rattle.std.specs.Prelude.{◌≡◌, ◌↔◌, ◌≤◌, ℕ, List, [], true, false};
+ghost use Rattle.std.specs.Prelude.{◌≡◌, ◌⊎◌, ◌↔◌, ◌≤◌, ℕ, List, [], true, false};
 ghost use Rattle.ids_base.specs.declared.status.Place.{Place as Spot};
 ghost use Rattle.ids_base.specs.declared.status.Why.{Why as Reason};
 ghost use Rattle.ids_outside.specs.Counts.{Rose};
@@ -10,6 +10,9 @@ ghost use Rattle.ids_model.specs.Tables.{Tables};
 ghost use Rattle.ids_model.specs.Text.{text};
 ghost use Rattle.ids_engine.specs.Blank.{IsBlank};
 ghost use Rattle.ids_engine.specs.Openings.{Refuses};
+ghost use Rattle.fast_recovery.specs.Images.{Recovers};
+ghost use Rattle.fast_recovery.specs.LogRead.{IsLogFull};
+ghost use Rattle.ids_engine.specs.OutOfBlocks.{HasNoBlock};
 ghost use Rattle.sql_reader.specs.Lines.{InGrammar, texts_of};
 ghost use Rattle.ids_outside.specs.Images.{Image};
 ghost use Rattle.fast_recovery.specs.declared.fault.OpenFault as opening;
@@ -24,6 +27,7 @@ use fast_recovery::OpenFault;
 use ids_base::list::List;
 use ids_base::status::Status;
 use ids_engine::journal_laws::{firsts_are_covered, transactions_leave_tables};
+use ids_engine::store_laws::full_has_no_block;
 use ids_engine::{InitPlan, Store, init_disk};
 use ids_model::journal::{Committed, Given};
 use ids_model::laws;
@@ -62,6 +66,7 @@ fn status_of(fault: OpenFault) -> Status
     ensures not_sink { ¬ (result ≡ Status.SinkFault) }
     ensures no_bad_script { (byte : ℕ) (why : Reason) → ¬ (result ≡ Status.BadScript byte why) }
     ensures disk { (result ≡ Status.DiskFault) ↔ (fault ≡ OpenFault.Disk) }
+    ensures log_full { result ≡ Status.LogFull → fault ≡ OpenFault.LogFull }
     ensures was_formatted { (x : Image) → WasFormatted x fault → has_opened result ≡ true → IsFormatted x }
     ensures not_formatted { result ≡ Status.NotFormatted → fault ≡ OpenFault.NotFormatted }
     ensures damaged { (place : Spot) → result ≡ Status.Damaged place → fault ≡ OpenFault.Damaged place }
@@ -96,11 +101,13 @@ pub(crate) fn run_script<D: Disk, K: Sink>(
     ensures not_formatted { result.status ≡ Status.NotFormatted → D.tells → Refuses (D.image disk.old) OpenFault.NotFormatted }
     ensures was_formatted { has_opened result.status ≡ true → D.tells → IsFormatted (D.image disk.old) }
     ensures damaged { (place : Spot) → result.status ≡ Status.Damaged place → D.tells → Refuses (D.image disk.old) (OpenFault.Damaged place) }
+    ensures log_full { result.status ≡ Status.LogFull → D.tells → (T : Tables) → Recovers (D.image disk.old) T → HasNoBlock (D.image disk.old) (D.image disk.new) result.journal ⊎ IsLogFull (D.image disk.old) }
 {
     laws::served_at_start();
     every_script_has_plans();
     firsts_are_covered();
     transactions_leave_tables();
+    full_has_no_block::<D>();
     let store = match Store::from_disk(alloc, disk) {
         Ok(store) => store,
         Err(fault) => return Ran::nothing(alloc, status_of(fault)),

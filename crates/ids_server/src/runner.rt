@@ -10,6 +10,8 @@ ghost use Rattle.ids_model.specs.Served.{entry_unanswered};
 ghost use Rattle.ids_engine.specs.Survival.{Done, Survives};
 ghost use Rattle.ids_engine.specs.Journals.{done_of, done_by};
 ghost use Rattle.ids_engine.specs.Stores.{IsStore, KeepsStore};
+ghost use Rattle.ids_engine.specs.OutOfBlocks.{IsOutOfBlocks};
+ghost use Rattle.ids_outside.specs.Images.{Image};
 
 use ids_base::isolation::Isolation;
 use ids_base::list::List;
@@ -192,14 +194,17 @@ impl Runner {
         ensures ok { OnOk result (running_of self.new ≡ committed (D.now disk.new) (running_of self.old) done effects reply) }
         ensures store { OnOk result (IsStore ⊥ D.size D.now D.image D.can_leave D.left_at self.new.store disk.new) }
         ensures noted { OnOk result (self.new.store.undo ≡ []) }
-        ensures kept { OnOk result ((since : ℕ) (found : Tables)
-            → KeepsStore D.tells D.size D.now D.image D.can_leave D.left_at since found (done_of self.old.journal.items) effects self.old.store disk.old
-            → KeepsStore D.tells D.size D.now D.image D.can_leave D.left_at since found (done_of self.new.journal.items) [] self.new.store disk.new) }
+        ensures kept { OnOk result ((since : ℕ) (base : Image) (found : Tables)
+            → KeepsStore D.tells D.size D.now D.image D.can_leave D.left_at since base found (done_of self.old.journal.items) effects self.old.store disk.old
+            → KeepsStore D.tells D.size D.now D.image D.can_leave D.left_at since base found (done_of self.new.journal.items) [] self.new.store disk.new) }
         ensures journal { OnErr result ((self.new.journal.items ≡ self.old.journal.items) ⊎ (self.new.journal.items ≡ self.old.journal.items ++ entry_unanswered 1 done effects None ∷ [])) }
         ensures given { OnErr result (self.new.given.items ≡ self.old.given.items) }
-        ensures survives { OnErr result ((since : ℕ) (found : Tables)
-            → KeepsStore D.tells D.size D.now D.image D.can_leave D.left_at since found (done_of self.old.journal.items) effects self.old.store disk.old
+        ensures survives { OnErr result ((since : ℕ) (base : Image) (found : Tables)
+            → KeepsStore D.tells D.size D.now D.image D.can_leave D.left_at since base found (done_of self.old.journal.items) effects self.old.store disk.old
             → Survives D.now D.left_at since found (done_of self.new.journal.items) disk.new) }
+        ensures out_of_blocks { result ≡ Err StoreFault.LogFull → (since : ℕ) (base : Image) (found : Tables)
+            → KeepsStore D.tells D.size D.now D.image D.can_leave D.left_at since base found (done_of self.old.journal.items) effects self.old.store disk.old
+            → IsOutOfBlocks D.tells D.size D.now D.image D.can_leave D.left_at since base found (done_of self.new.journal.items) self.new.store disk.new }
         ensures later { D.now disk.old ≤ D.now disk.new }
         ensures counted { D.fault_count disk.old ≤ D.fault_count disk.new }
         ensures disk_fault { result ≡ Err StoreFault.Disk → Rose (D.fault_count disk.old) (D.fault_count disk.new) }
@@ -237,14 +242,17 @@ impl Runner {
         ensures ok { OnOk result (running_of self.new ≡ committed (D.now disk.new) (running_of self.old) done effects reply) }
         ensures store { OnOk result (IsStore ⊥ D.size D.now D.image D.can_leave D.left_at self.new.store disk.new) }
         ensures noted { OnOk result (self.new.store.undo ≡ []) }
-        ensures kept { OnOk result ((since : ℕ) (found : Tables)
-            → KeepsStore D.tells D.size D.now D.image D.can_leave D.left_at since found (done_of self.old.journal.items) effects self.old.store disk.old
-            → KeepsStore D.tells D.size D.now D.image D.can_leave D.left_at since found (done_of self.new.journal.items) [] self.new.store disk.new) }
+        ensures kept { OnOk result ((since : ℕ) (base : Image) (found : Tables)
+            → KeepsStore D.tells D.size D.now D.image D.can_leave D.left_at since base found (done_of self.old.journal.items) effects self.old.store disk.old
+            → KeepsStore D.tells D.size D.now D.image D.can_leave D.left_at since base found (done_of self.new.journal.items) [] self.new.store disk.new) }
         ensures journal { OnErr result ((self.new.journal.items ≡ self.old.journal.items) ⊎ (¬ (effects ≡ []) × (self.new.journal.items ≡ self.old.journal.items ++ entry_unanswered 1 done effects None ∷ []))) }
         ensures given { OnErr result (self.new.given.items ≡ self.old.given.items) }
-        ensures survives { OnErr result ((since : ℕ) (found : Tables)
-            → KeepsStore D.tells D.size D.now D.image D.can_leave D.left_at since found (done_of self.old.journal.items) effects self.old.store disk.old
+        ensures survives { OnErr result ((since : ℕ) (base : Image) (found : Tables)
+            → KeepsStore D.tells D.size D.now D.image D.can_leave D.left_at since base found (done_of self.old.journal.items) effects self.old.store disk.old
             → Survives D.now D.left_at since found (done_of self.new.journal.items) disk.new) }
+        ensures out_of_blocks { result ≡ Err StoreFault.LogFull → (since : ℕ) (base : Image) (found : Tables)
+            → KeepsStore D.tells D.size D.now D.image D.can_leave D.left_at since base found (done_of self.old.journal.items) effects self.old.store disk.old
+            → IsOutOfBlocks D.tells D.size D.now D.image D.can_leave D.left_at since base found (done_of self.new.journal.items) self.new.store disk.new }
         ensures later { D.now disk.old ≤ D.now disk.new }
         ensures counted { D.fault_count disk.old ≤ D.fault_count disk.new }
         ensures disk_fault { result ≡ Err StoreFault.Disk → Rose (D.fault_count disk.old) (D.fault_count disk.new) }
@@ -267,13 +275,16 @@ impl Runner {
         ensures running { OnOk result (running_of self.new ≡ record (running_of self.old) { tables = apply_all self.old.store.tables gone.now }) }
         ensures store { OnOk result (IsStore ⊥ D.size D.now D.image D.can_leave D.left_at self.new.store disk.new) }
         ensures noted { OnOk result (self.new.store.undo ≡ self.old.store.undo ++ gone.now) }
-        ensures kept { OnOk result ((since : ℕ) (found : Tables) (earlier : List Done) (so_far : List effects.Effect)
-            → KeepsStore D.tells D.size D.now D.image D.can_leave D.left_at since found earlier so_far self.old.store disk.old
-            → KeepsStore D.tells D.size D.now D.image D.can_leave D.left_at since found earlier (so_far ++ gone.now) self.new.store disk.new) }
+        ensures kept { OnOk result ((since : ℕ) (base : Image) (found : Tables) (earlier : List Done) (so_far : List effects.Effect)
+            → KeepsStore D.tells D.size D.now D.image D.can_leave D.left_at since base found earlier so_far self.old.store disk.old
+            → KeepsStore D.tells D.size D.now D.image D.can_leave D.left_at since base found earlier (so_far ++ gone.now) self.new.store disk.new) }
         ensures same { (self.new.inside ≡ self.old.inside) × (self.new.journal ≡ self.old.journal) × (self.new.given ≡ self.old.given) }
-        ensures survives { OnErr result ((since : ℕ) (found : Tables) (earlier : List Done) (so_far : List effects.Effect)
-            → KeepsStore D.tells D.size D.now D.image D.can_leave D.left_at since found earlier so_far self.old.store disk.old
+        ensures survives { OnErr result ((since : ℕ) (base : Image) (found : Tables) (earlier : List Done) (so_far : List effects.Effect)
+            → KeepsStore D.tells D.size D.now D.image D.can_leave D.left_at since base found earlier so_far self.old.store disk.old
             → Survives D.now D.left_at since found earlier disk.new) }
+        ensures out_of_blocks { result ≡ Err StoreFault.LogFull → (since : ℕ) (base : Image) (found : Tables) (earlier : List Done) (so_far : List effects.Effect)
+            → KeepsStore D.tells D.size D.now D.image D.can_leave D.left_at since base found earlier so_far self.old.store disk.old
+            → IsOutOfBlocks D.tells D.size D.now D.image D.can_leave D.left_at since base found earlier self.new.store disk.new }
         ensures later { D.now disk.old ≤ D.now disk.new }
         ensures counted { D.fault_count disk.old ≤ D.fault_count disk.new }
         ensures disk_fault { result ≡ Err StoreFault.Disk → Rose (D.fault_count disk.old) (D.fault_count disk.new) }
@@ -297,13 +308,16 @@ impl Runner {
         ensures running { IfOk result (λ o. running_of self.new ≡ record (running_of self.old) { tables = apply_all self.old.store.tables o.effects }) }
         ensures store { OnOk result (IsStore ⊥ D.size D.now D.image D.can_leave D.left_at self.new.store disk.new) }
         ensures noted { IfOk result (λ o. self.new.store.undo ≡ self.old.store.undo ++ o.effects) }
-        ensures kept { IfOk result (λ o. (since : ℕ) (found : Tables) (earlier : List Done) (so_far : List effects.Effect)
-            → KeepsStore D.tells D.size D.now D.image D.can_leave D.left_at since found earlier so_far self.old.store disk.old
-            → KeepsStore D.tells D.size D.now D.image D.can_leave D.left_at since found earlier (so_far ++ o.effects) self.new.store disk.new) }
+        ensures kept { IfOk result (λ o. (since : ℕ) (base : Image) (found : Tables) (earlier : List Done) (so_far : List effects.Effect)
+            → KeepsStore D.tells D.size D.now D.image D.can_leave D.left_at since base found earlier so_far self.old.store disk.old
+            → KeepsStore D.tells D.size D.now D.image D.can_leave D.left_at since base found earlier (so_far ++ o.effects) self.new.store disk.new) }
         ensures same { OnErr result ((self.new.inside ≡ self.old.inside) × (self.new.journal ≡ self.old.journal) × (self.new.given ≡ self.old.given)) }
-        ensures survives { OnErr result ((since : ℕ) (found : Tables) (earlier : List Done) (so_far : List effects.Effect)
-            → KeepsStore D.tells D.size D.now D.image D.can_leave D.left_at since found earlier so_far self.old.store disk.old
+        ensures survives { OnErr result ((since : ℕ) (base : Image) (found : Tables) (earlier : List Done) (so_far : List effects.Effect)
+            → KeepsStore D.tells D.size D.now D.image D.can_leave D.left_at since base found earlier so_far self.old.store disk.old
             → Survives D.now D.left_at since found earlier disk.new) }
+        ensures out_of_blocks { result ≡ Err StoreFault.LogFull → (since : ℕ) (base : Image) (found : Tables) (earlier : List Done) (so_far : List effects.Effect)
+            → KeepsStore D.tells D.size D.now D.image D.can_leave D.left_at since base found earlier so_far self.old.store disk.old
+            → IsOutOfBlocks D.tells D.size D.now D.image D.can_leave D.left_at since base found earlier self.new.store disk.new }
         ensures later { D.now disk.old ≤ D.now disk.new }
         ensures counted { D.fault_count disk.old ≤ D.fault_count disk.new }
         ensures disk_fault { result ≡ Err StoreFault.Disk → Rose (D.fault_count disk.old) (D.fault_count disk.new) }
@@ -357,14 +371,17 @@ impl Runner {
 
         ensures stepped { OnOk result (Steps (D.now disk.new) (running_of self.old) (Plan.Data statement) (running_of self.new)) }
         ensures store { OnOk result (HasStore D.size D.now D.image D.can_leave D.left_at self.new disk.new) }
-        ensures kept { OnOk result ((since : ℕ) (found : Tables)
-            → KeepsRun D.tells D.size D.now D.image D.can_leave D.left_at since found self.old disk.old
-            → KeepsRun D.tells D.size D.now D.image D.can_leave D.left_at since found self.new disk.new) }
+        ensures kept { OnOk result ((since : ℕ) (base : Image) (found : Tables)
+            → KeepsRun D.tells D.size D.now D.image D.can_leave D.left_at since base found self.old disk.old
+            → KeepsRun D.tells D.size D.now D.image D.can_leave D.left_at since base found self.new disk.new) }
         ensures failed { OnErr result (Fails (running_of self.old) (Plan.Data statement) self.new.journal.items) }
         ensures given { OnErr result (self.new.given.items ≡ self.old.given.items) }
-        ensures survives { OnErr result ((since : ℕ) (found : Tables)
-            → KeepsRun D.tells D.size D.now D.image D.can_leave D.left_at since found self.old disk.old
+        ensures survives { OnErr result ((since : ℕ) (base : Image) (found : Tables)
+            → KeepsRun D.tells D.size D.now D.image D.can_leave D.left_at since base found self.old disk.old
             → Survives D.now D.left_at since found (done_of self.new.journal.items) disk.new) }
+        ensures out_of_blocks { result ≡ Err StoreFault.LogFull → (since : ℕ) (base : Image) (found : Tables)
+            → KeepsRun D.tells D.size D.now D.image D.can_leave D.left_at since base found self.old disk.old
+            → IsOutOfBlocks D.tells D.size D.now D.image D.can_leave D.left_at since base found (done_of self.new.journal.items) self.new.store disk.new }
         ensures later { D.now disk.old ≤ D.now disk.new }
         ensures counted { D.fault_count disk.old ≤ D.fault_count disk.new }
         ensures disk_fault { result ≡ Err StoreFault.Disk → Rose (D.fault_count disk.old) (D.fault_count disk.new) }
@@ -411,14 +428,17 @@ impl Runner {
 
         ensures stepped { OnOk result (Steps (D.now disk.new) (running_of self.old) Plan.Commit (running_of self.new)) }
         ensures store { OnOk result (HasStore D.size D.now D.image D.can_leave D.left_at self.new disk.new) }
-        ensures kept { OnOk result ((since : ℕ) (found : Tables)
-            → KeepsRun D.tells D.size D.now D.image D.can_leave D.left_at since found self.old disk.old
-            → KeepsRun D.tells D.size D.now D.image D.can_leave D.left_at since found self.new disk.new) }
+        ensures kept { OnOk result ((since : ℕ) (base : Image) (found : Tables)
+            → KeepsRun D.tells D.size D.now D.image D.can_leave D.left_at since base found self.old disk.old
+            → KeepsRun D.tells D.size D.now D.image D.can_leave D.left_at since base found self.new disk.new) }
         ensures failed { OnErr result (Fails (running_of self.old) Plan.Commit self.new.journal.items) }
         ensures given { OnErr result (self.new.given.items ≡ self.old.given.items) }
-        ensures survives { OnErr result ((since : ℕ) (found : Tables)
-            → KeepsRun D.tells D.size D.now D.image D.can_leave D.left_at since found self.old disk.old
+        ensures survives { OnErr result ((since : ℕ) (base : Image) (found : Tables)
+            → KeepsRun D.tells D.size D.now D.image D.can_leave D.left_at since base found self.old disk.old
             → Survives D.now D.left_at since found (done_of self.new.journal.items) disk.new) }
+        ensures out_of_blocks { result ≡ Err StoreFault.LogFull → (since : ℕ) (base : Image) (found : Tables)
+            → KeepsRun D.tells D.size D.now D.image D.can_leave D.left_at since base found self.old disk.old
+            → IsOutOfBlocks D.tells D.size D.now D.image D.can_leave D.left_at since base found (done_of self.new.journal.items) self.new.store disk.new }
         ensures later { D.now disk.old ≤ D.now disk.new }
         ensures counted { D.fault_count disk.old ≤ D.fault_count disk.new }
         ensures disk_fault { result ≡ Err StoreFault.Disk → Rose (D.fault_count disk.old) (D.fault_count disk.new) }
@@ -439,14 +459,17 @@ impl Runner {
         ensures ended { OnOk result (running_of self.new ≡ taken_back (running_of self.old) self.old.inside) }
         ensures closed { OnOk result (self.new.inside ≡ None) }
         ensures store { OnOk result (HasStore D.size D.now D.image D.can_leave D.left_at self.new disk.new) }
-        ensures kept { OnOk result ((since : ℕ) (found : Tables)
-            → KeepsRun D.tells D.size D.now D.image D.can_leave D.left_at since found self.old disk.old
-            → KeepsRun D.tells D.size D.now D.image D.can_leave D.left_at since found self.new disk.new) }
+        ensures kept { OnOk result ((since : ℕ) (base : Image) (found : Tables)
+            → KeepsRun D.tells D.size D.now D.image D.can_leave D.left_at since base found self.old disk.old
+            → KeepsRun D.tells D.size D.now D.image D.can_leave D.left_at since base found self.new disk.new) }
         ensures journal { self.new.journal ≡ self.old.journal }
         ensures given { self.new.given ≡ self.old.given }
-        ensures survives { OnErr result ((since : ℕ) (found : Tables)
-            → KeepsRun D.tells D.size D.now D.image D.can_leave D.left_at since found self.old disk.old
+        ensures survives { OnErr result ((since : ℕ) (base : Image) (found : Tables)
+            → KeepsRun D.tells D.size D.now D.image D.can_leave D.left_at since base found self.old disk.old
             → Survives D.now D.left_at since found (done_of self.new.journal.items) disk.new) }
+        ensures out_of_blocks { result ≡ Err StoreFault.LogFull → (since : ℕ) (base : Image) (found : Tables)
+            → KeepsRun D.tells D.size D.now D.image D.can_leave D.left_at since base found self.old disk.old
+            → IsOutOfBlocks D.tells D.size D.now D.image D.can_leave D.left_at since base found (done_of self.new.journal.items) self.new.store disk.new }
         ensures later { D.now disk.old ≤ D.now disk.new }
         ensures counted { D.fault_count disk.old ≤ D.fault_count disk.new }
         ensures disk_fault { result ≡ Err StoreFault.Disk → Rose (D.fault_count disk.old) (D.fault_count disk.new) }
@@ -466,14 +489,17 @@ impl Runner {
 
         ensures stepped { OnOk result (Steps (D.now disk.new) (running_of self.old) Plan.Rollback (running_of self.new)) }
         ensures store { OnOk result (HasStore D.size D.now D.image D.can_leave D.left_at self.new disk.new) }
-        ensures kept { OnOk result ((since : ℕ) (found : Tables)
-            → KeepsRun D.tells D.size D.now D.image D.can_leave D.left_at since found self.old disk.old
-            → KeepsRun D.tells D.size D.now D.image D.can_leave D.left_at since found self.new disk.new) }
+        ensures kept { OnOk result ((since : ℕ) (base : Image) (found : Tables)
+            → KeepsRun D.tells D.size D.now D.image D.can_leave D.left_at since base found self.old disk.old
+            → KeepsRun D.tells D.size D.now D.image D.can_leave D.left_at since base found self.new disk.new) }
         ensures failed { OnErr result (Fails (running_of self.old) Plan.Rollback self.new.journal.items) }
         ensures given { OnErr result (self.new.given.items ≡ self.old.given.items) }
-        ensures survives { OnErr result ((since : ℕ) (found : Tables)
-            → KeepsRun D.tells D.size D.now D.image D.can_leave D.left_at since found self.old disk.old
+        ensures survives { OnErr result ((since : ℕ) (base : Image) (found : Tables)
+            → KeepsRun D.tells D.size D.now D.image D.can_leave D.left_at since base found self.old disk.old
             → Survives D.now D.left_at since found (done_of self.new.journal.items) disk.new) }
+        ensures out_of_blocks { result ≡ Err StoreFault.LogFull → (since : ℕ) (base : Image) (found : Tables)
+            → KeepsRun D.tells D.size D.now D.image D.can_leave D.left_at since base found self.old disk.old
+            → IsOutOfBlocks D.tells D.size D.now D.image D.can_leave D.left_at since base found (done_of self.new.journal.items) self.new.store disk.new }
         ensures later { D.now disk.old ≤ D.now disk.new }
         ensures counted { D.fault_count disk.old ≤ D.fault_count disk.new }
         ensures disk_fault { result ≡ Err StoreFault.Disk → Rose (D.fault_count disk.old) (D.fault_count disk.new) }
@@ -493,14 +519,17 @@ impl Runner {
 
         ensures stepped { OnOk result (Steps (D.now disk.new) (running_of self.old) plan (running_of self.new)) }
         ensures store { OnOk result (HasStore D.size D.now D.image D.can_leave D.left_at self.new disk.new) }
-        ensures kept { OnOk result ((since : ℕ) (found : Tables)
-            → KeepsRun D.tells D.size D.now D.image D.can_leave D.left_at since found self.old disk.old
-            → KeepsRun D.tells D.size D.now D.image D.can_leave D.left_at since found self.new disk.new) }
+        ensures kept { OnOk result ((since : ℕ) (base : Image) (found : Tables)
+            → KeepsRun D.tells D.size D.now D.image D.can_leave D.left_at since base found self.old disk.old
+            → KeepsRun D.tells D.size D.now D.image D.can_leave D.left_at since base found self.new disk.new) }
         ensures failed { OnErr result (Fails (running_of self.old) plan self.new.journal.items) }
         ensures given { OnErr result (self.new.given.items ≡ self.old.given.items) }
-        ensures survives { OnErr result ((since : ℕ) (found : Tables)
-            → KeepsRun D.tells D.size D.now D.image D.can_leave D.left_at since found self.old disk.old
+        ensures survives { OnErr result ((since : ℕ) (base : Image) (found : Tables)
+            → KeepsRun D.tells D.size D.now D.image D.can_leave D.left_at since base found self.old disk.old
             → Survives D.now D.left_at since found (done_of self.new.journal.items) disk.new) }
+        ensures out_of_blocks { result ≡ Err StoreFault.LogFull → (since : ℕ) (base : Image) (found : Tables)
+            → KeepsRun D.tells D.size D.now D.image D.can_leave D.left_at since base found self.old disk.old
+            → IsOutOfBlocks D.tells D.size D.now D.image D.can_leave D.left_at since base found (done_of self.new.journal.items) self.new.store disk.new }
         ensures later { D.now disk.old ≤ D.now disk.new }
         ensures counted { D.fault_count disk.old ≤ D.fault_count disk.new }
         ensures disk_fault { result ≡ Err StoreFault.Disk → Rose (D.fault_count disk.old) (D.fault_count disk.new) }

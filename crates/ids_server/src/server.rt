@@ -8,9 +8,11 @@ ghost use Rattle.chunk_map.specs.Layouts.{default_layout};
 ghost use Rattle.chunk_map.specs.Formatted.{IsFormatted};
 ghost use Rattle.ids_model.specs.Tables.{Tables};
 ghost use Rattle.ids_model.specs.Text.{text};
-ghost use Rattle.fast_recovery.specs.Images.{Recovers};
 ghost use Rattle.ids_engine.specs.Blank.{IsBlank};
 ghost use Rattle.ids_engine.specs.Openings.{Refuses};
+ghost use Rattle.fast_recovery.specs.Images.{Recovers};
+ghost use Rattle.fast_recovery.specs.LogRead.{IsLogFull};
+ghost use Rattle.ids_engine.specs.OutOfBlocks.{HasNoBlock};
 ghost use Rattle.sql_reader.specs.Lines.{InGrammar, IsBadAt};
 ghost use Rattle.ids_server.specs.Words.{is_run, is_init, is_command};
 ghost use Rattle.ids_server.specs.Lines.{status_line};
@@ -62,6 +64,7 @@ fn check_and_run<D: Disk, K: Sink>(
     ensures not_formatted { result.status ≡ Status.NotFormatted → D.tells → Refuses (D.image disk.old) OpenFault.NotFormatted }
     ensures was_formatted { has_opened result.status ≡ true → D.tells → IsFormatted (D.image disk.old) }
     ensures damaged { (place : Spot) → result.status ≡ Status.Damaged place → D.tells → Refuses (D.image disk.old) (OpenFault.Damaged place) }
+    ensures log_full { result.status ≡ Status.LogFull → D.tells → (T : Tables) → Recovers (D.image disk.old) T → HasNoBlock (D.image disk.old) (D.image disk.new) result.journal ⊎ IsLogFull (D.image disk.old) }
 {
     laws::served_at_start();
     match check_script(alloc, bytes) {
@@ -96,6 +99,7 @@ fn run_source<D: Disk, S: Source, K: Sink>(
     ensures not_formatted { result.status ≡ Status.NotFormatted → D.tells → Refuses (D.image disk.old) OpenFault.NotFormatted }
     ensures was_formatted { has_opened result.status ≡ true → D.tells → IsFormatted (D.image disk.old) }
     ensures damaged { (place : Spot) → result.status ≡ Status.Damaged place → D.tells → Refuses (D.image disk.old) (OpenFault.Damaged place) }
+    ensures log_full { result.status ≡ Status.LogFull → D.tells → (T : Tables) → Recovers (D.image disk.old) T → HasNoBlock (D.image disk.old) (D.image disk.new) result.journal ⊎ IsLogFull (D.image disk.old) }
 {
     laws::served_at_start();
     match read_script(alloc, source) {
@@ -133,6 +137,8 @@ fn answer<D: Disk, S: Source, K: Sink>(
     ensures not_formatted { result.status ≡ Status.NotFormatted → D.tells → Refuses (D.image disk.old) OpenFault.NotFormatted }
     ensures was_formatted { is_run words.now ≡ true → has_opened result.status ≡ true → D.tells → IsFormatted (D.image disk.old) }
     ensures damaged { (place : Spot) → result.status ≡ Status.Damaged place → D.tells → Refuses (D.image disk.old) (OpenFault.Damaged place) }
+    ensures full_of_run { result.status ≡ Status.LogFull → is_run words.now ≡ true }
+    ensures log_full { result.status ≡ Status.LogFull → D.tells → (T : Tables) → Recovers (D.image disk.old) T → HasNoBlock (D.image disk.old) (D.image disk.new) result.journal ⊎ IsLogFull (D.image disk.old) }
 {
     match command_of(words) {
         None => Ran::nothing(alloc, Status::BadWords),
@@ -194,7 +200,7 @@ pub fn server<D: Disk + Send, S: Source, K: Sink + Send, G: Gate + Sync>(
     ensures behind { ¬ (result.status ≡ Status.SinkFault) → K.tells → TakesPart (text result.given) (K.taken result.out) (status_line result.status) }
     ensures whole { ¬ (result.status ≡ Status.SinkFault) → K.tells → (K.taken result.out ≡ text result.given ++ status_line result.status) ⊎ Rose (K.fault_count out) (K.fault_count result.out) }
 
-    // Each status but `Memory` and `LogFull` has its cause.
+    // Each status but `Memory` has its cause.
     ensures bad_words { (result.status ≡ Status.BadWords) ↔ (is_command words.now ≡ false) }
     ensures bad_script { (byte : ℕ) (why : Reason) → result.status ≡ Status.BadScript byte why → S.tells → IsBadAt (S.left script.old) byte × (why ≡ Why.Wrong) }
     ensures too_long { result.status ≡ Status.TooLong → S.tells → MOST_BYTES < length (S.left script.old) }
@@ -208,6 +214,8 @@ pub fn server<D: Disk + Send, S: Source, K: Sink + Send, G: Gate + Sync>(
     // What a stop leaves of a run is run again: an image from which tables are recovered is neither not formatted nor damaged.
     ensures accepts { is_run words.now ≡ true → D.tells → (T : Tables) → Recovers (D.image disk) T
         → ¬ (result.status ≡ Status.NotFormatted) × ((place : Spot) → ¬ (result.status ≡ Status.Damaged place)) }
+    ensures log_full { result.status ≡ Status.LogFull → (is_run words.now ≡ true)
+        × (D.tells → (T : Tables) → Recovers (D.image disk) T → HasNoBlock (D.image disk) (D.image result.disk) result.journal ⊎ IsLogFull (D.image disk)) }
 {
     recovered_is_accepted();
     let _ = gate;

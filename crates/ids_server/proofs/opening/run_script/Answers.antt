@@ -1,6 +1,9 @@
-use Rattle.std.proofs.Common.{◌≡◌, ◌∙◌, sym, ap, subst}
+use Rattle.std.proofs.Common.{◌≡◌, ◌∙◌, sym, ap, subst, ◌+◌, List, inl, inr, arith}
 use Rattle.std.specs.FinMap as map
+use Rattle.ids_model.specs.declared.journal.Committed.{Committed}
 use Rattle.ids_model.specs.Tables.{Tables}
+use Rattle.ids_engine.specs.Openings.{Refuses}
+use Rattle.ids_engine.specs.OutOfBlocks.{HasNoBlock}
 use Rattle.fast_recovery.specs.declared.fault.OpenFault.TheVariants.{Disk}
 use Rattle.ids_engine.specs.declared.store.Store.{Store}
 use Rattle.ids_server.specs.Serving.{HasRun, has_opened}
@@ -30,9 +33,27 @@ returns-clause-ran g c = λ bytes is grammar.
           c.in-Ok.ensures.kept
           (λ script each. subst (λ (s : Store). HasRun script s.tables c.run-status.result c.run-status.new.runner.journal.items c.run-status.new.runner.given.items) c.new-runner.ensures.store
           (c.run-status.ensures.ran script bytes is each))
-          (λ since found keeps. c.run-status.ensures.survives since found (start since found c.from_disk.new.disk keeps))
-          (λ done since found keeps. c.run-status.ensures.at_end done since found (start since found c.from_disk.new.disk keeps))),
+          (λ since base found keeps. c.run-status.ensures.survives since base found (start since base found c.from_disk.new.disk keeps))
+          (λ done since base found keeps. c.run-status.ensures.at_end done since base found (start since base found c.from_disk.new.disk keeps))),
     )
+
+pub returns-in-Err-clause-log_full : goal.returns-in-Err-clause-log_full
+returns-in-Err-clause-log_full g c = λ full told T recovers.
+    inr (subst (λ e. Refuses (g.D.Disk.image c.args.disk.now) e) (c.status_of.ensures.log_full (sym c.nothing.ensures.status ∙ full)) (c.in-Err.ensures.refused told))
+
+pub returns-clause-log_full : goal.returns-clause-log_full
+returns-clause-log_full g c = λ full told T recovers.
+    let d = g.D.Disk in
+    let old = c.args.disk.now in
+    let runner = c.new-runner.result in
+    let store = c.in-Ok.store in
+    let start = keeps_at_start d.tells d.size d.now d.image d.can_leave d.left_at runner store c.new-runner.ensures.running c.new-runner.ensures.store in
+    let since = d.now old + 1 in
+    let found = c.in-Ok.ensures.kept T told recovers in
+    let out = c.run-status.ensures.out_of_blocks full since (d.image old) store.tables
+    (start since (d.image old) store.tables c.from_disk.new.disk (found.keeps since (inr (omega arith)))) in
+    inl (subst (λ (js : List Committed). HasNoBlock (d.image old) (d.image c.run-status.new.disk) js) (sym c.into_parts-journal.ensures.journal)
+    (c.full_has_no_block.ensures since (d.image old) store.tables c.run-status.new.runner.journal.items c.run-status.new.runner.store c.run-status.new.disk out told))
 
 pub returns-in-Err-clause-was_formatted : goal.returns-in-Err-clause-was_formatted
 returns-in-Err-clause-was_formatted g c = λ opened told.

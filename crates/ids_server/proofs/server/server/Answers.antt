@@ -31,3 +31,6 @@ returns-clause-accepts g c = λ run tells T recovers.
       λ is. c.recovered_is_accepted.ensures x T NotFormatted recovers (c.answer-ran.ensures.not_formatted is tells) tt,
       λ place is. c.recovered_is_accepted.ensures x T (Damaged place) recovers (c.answer-ran.ensures.damaged place is tells) tt,
     )
+
+pub returns-clause-log_full : goal.returns-clause-log_full
+returns-clause-log_full g c = λ full. (c.answer-ran.ensures.full_of_run full, c.answer-ran.ensures.log_full full)

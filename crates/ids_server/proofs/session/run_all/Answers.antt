@@ -1,4 +1,4 @@
-use Rattle.std.proofs.Common.{◌≡◌, ◌∙◌, ◌<◌, ◌≤◌, refl, sym, ap, subst, ℕ, List, length, arith}
+use Rattle.std.proofs.Common.{◌≡◌, ◌∙◌, ◌<◌, ◌≤◌, refl, sym, ap, subst, ℕ, List, length, arith, Err}
 use Rattle.std.specs.Prelude.{Vec}
 use Rattle.std.specs.declared.alloc.Global.{Global}
 use Rattle.ids_base.specs.declared.plan.Plan.{Plan}
@@ -29,7 +29,7 @@ loop-index-preserved g c =
           (next_there c.a_statement_has_one_plan.ensures plans c.loop-index.runner.given.items _ c.loop-index.index stepped.0 (subst (λ n. c.loop-index.index < n) c.statements-index-end.ensures c.loop-index-test.true)
           stepped.1 inv.count (plans_each c.args.script.now bytes plans is each)) stepped.2;
       store = c.in-Ok.ensures.store;
-      kept = λ since found keeps. c.in-Ok.ensures.kept since found (inv.kept since found keeps);
+      kept = λ since base found keeps. c.in-Ok.ensures.kept since base found (inv.kept since base found keeps);
       count = count_more _ _ _ _ printed.1 inv.count;
       printed = puts-same _ _ _ _ (sym (ap text printed.1 ∙ text-push c.loop-index.runner.given.items printed.0)) (puts-then _ _ _ _ _ inv.printed printed.2);
       later = omega (arith, inv.later, c.in-Ok.ensures.later);
@@ -46,7 +46,7 @@ returns-in-Err-clause-ran g c = λ plans bytes is each.
     at inv.count (plans_each c.args.script.now bytes plans is each)) c.in-Err.ensures.failed c.in-Err.ensures.given)
 
 pub returns-in-Err-clause-survives : goal.returns-in-Err-clause-survives
-returns-in-Err-clause-survives g c = λ since found keeps. c.in-Err.ensures.survives since found (c.loop-index.invariant.kept since found keeps)
+returns-in-Err-clause-survives g c = λ since base found keeps. c.in-Err.ensures.survives since base found (c.loop-index.invariant.kept since base found keeps)
 
 pub returns-then-has_failed-clause-ran : goal.returns-then-has_failed-clause-ran
 returns-then-has_failed-clause-ran g c = λ plans bytes is each.
@@ -60,9 +60,9 @@ returns-then-has_failed-clause-ran g c = λ plans bytes is each.
     stepped.1 inv.count (plans_each c.args.script.now bytes plans is each)) stepped.2))
 
 pub returns-then-has_failed-clause-survives : goal.returns-then-has_failed-clause-survives
-returns-then-has_failed-clause-survives g c = λ since found keeps.
-    c.kept_survives.ensures since found (done_of c.run_one.new.runner.journal.items) (effects_of c.run_one.new.runner.inside) c.run_one.new.runner.store c.run_one.new.disk
-    (c.in-Ok.ensures.kept since found (c.loop-index.invariant.kept since found keeps))
+returns-then-has_failed-clause-survives g c = λ since base found keeps.
+    c.kept_survives.ensures since base found (done_of c.run_one.new.runner.journal.items) (effects_of c.run_one.new.runner.inside) c.run_one.new.runner.store c.run_one.new.disk
+    (c.in-Ok.ensures.kept since base found (c.loop-index.invariant.kept since base found keeps))
 
 pub returns-then-has_failed-clause-printed : goal.returns-then-has_failed-clause-printed
 returns-then-has_failed-clause-printed g c =
@@ -78,14 +78,14 @@ returns-in-Ok-end-clause-ran g c = λ plans bytes is each.
     (ap (λ (js : Vec Committed Global). js.items) c.end.ensures.journal) (ap (λ (gs : Vec Given Global). gs.items) c.end.ensures.given)
 
 pub returns-in-Ok-end-clause-survives : goal.returns-in-Ok-end-clause-survives
-returns-in-Ok-end-clause-survives g c = λ since found keeps.
-    c.kept_survives.ensures since found (done_of c.end.new.self.journal.items) (effects_of c.end.new.self.inside) c.end.new.self.store c.end.new.disk
-    (c.in-Ok-end.ensures.kept since found (c.loop-index.invariant.kept since found keeps))
+returns-in-Ok-end-clause-survives g c = λ since base found keeps.
+    c.kept_survives.ensures since base found (done_of c.end.new.self.journal.items) (effects_of c.end.new.self.inside) c.end.new.self.store c.end.new.disk
+    (c.in-Ok-end.ensures.kept since base found (c.loop-index.invariant.kept since base found keeps))
 
 pub returns-in-Ok-end-clause-at_end : goal.returns-in-Ok-end-clause-at_end
-returns-in-Ok-end-clause-at_end g c = λ done since found keeps.
-    c.kept_now.ensures since found (done_of c.end.new.self.journal.items) (effects_of c.end.new.self.inside) c.end.new.self.store c.end.new.disk
-    (c.in-Ok-end.ensures.kept since found (c.loop-index.invariant.kept since found keeps))
+returns-in-Ok-end-clause-at_end g c = λ done since base found keeps.
+    c.kept_now.ensures since base found (done_of c.end.new.self.journal.items) (effects_of c.end.new.self.inside) c.end.new.self.store c.end.new.disk
+    (c.in-Ok-end.ensures.kept since base found (c.loop-index.invariant.kept since base found keeps))
 
 pub returns-in-Err-end-clause-ran : goal.returns-in-Err-end-clause-ran
 returns-in-Err-end-clause-ran g c = λ plans bytes is each.
@@ -94,4 +94,12 @@ returns-in-Err-end-clause-ran g c = λ plans bytes is each.
     (ap (λ (js : Vec Committed Global). js.items) c.end.ensures.journal) (ap (λ (gs : Vec Given Global). gs.items) c.end.ensures.given)
 
 pub returns-in-Err-end-clause-survives : goal.returns-in-Err-end-clause-survives
-returns-in-Err-end-clause-survives g c = λ since found keeps. c.in-Err-end.ensures.survives since found (c.loop-index.invariant.kept since found keeps)
+returns-in-Err-end-clause-survives g c = λ since base found keeps. c.in-Err-end.ensures.survives since base found (c.loop-index.invariant.kept since base found keeps)
+
+pub returns-in-Err-clause-out_of_blocks : goal.returns-in-Err-clause-out_of_blocks
+returns-in-Err-clause-out_of_blocks g c = λ full since base found keeps.
+    c.in-Err.ensures.out_of_blocks (ap Err (c.status_of.ensures.log_full full)) since base found (c.loop-index.invariant.kept since base found keeps)
+
+pub returns-in-Err-end-clause-out_of_blocks : goal.returns-in-Err-end-clause-out_of_blocks
+returns-in-Err-end-clause-out_of_blocks g c = λ full since base found keeps.
+    c.in-Err-end.ensures.out_of_blocks (ap Err (c.status_of-in-Err-end.ensures.log_full full)) since base found (c.loop-index.invariant.kept since base found keeps)

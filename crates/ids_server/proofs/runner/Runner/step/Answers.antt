@@ -6,10 +6,10 @@ use Rattle.ids_server.proofs.Answers.{always_err}
 use Rattle.ids_server.proofs.runner.Runner.step.Goals as goal
 
 pub returns-then-len-clause-survives : goal.returns-then-len-clause-survives
-returns-then-len-clause-survives g c = λ since found keeps.
-    c.kept_survives.ensures since found (done_of c.args.self.now.journal.items) (effects_of c.args.self.now.inside) c.args.self.now.store c.args.disk.now keeps
+returns-then-len-clause-survives g c = λ since base found keeps.
+    c.kept_survives.ensures since base found (done_of c.args.self.now.journal.items) (effects_of c.args.self.now.inside) c.args.self.now.store c.args.disk.now keeps
 
 pub returns-in_err-begin-in-Begin-clause-survives : goal.returns-in_err-begin-in-Begin-clause-survives
-returns-in_err-begin-in-Begin-clause-survives g c = always_err c.from_residual.result (λ since found keeps.
+returns-in_err-begin-in-Begin-clause-survives g c = always_err c.from_residual.result (λ since base found keeps.
     subst (λ (ds : List Done). Survives g.D.Disk.now g.D.Disk.left_at since found ds c.args.disk.now) (sym (ap done_of c.begin.ensures.journal))
-    (c.kept_survives.ensures since found (done_of c.args.self.now.journal.items) (effects_of c.args.self.now.inside) c.args.self.now.store c.args.disk.now keeps))
+    (c.kept_survives.ensures since base found (done_of c.args.self.now.journal.items) (effects_of c.args.self.now.inside) c.args.self.now.store c.args.disk.now keeps))

@@ -7,6 +7,8 @@ use Rattle.ids_model.specs.Tables.{Tables, apply, apply_all}
 use Rattle.ids_model.specs.Fits.{Fits}
 use Rattle.ids_engine.specs.Survival.{Done}
 use Rattle.ids_engine.specs.Stores.{KeepsStore}
+use Rattle.ids_engine.specs.declared.store.StoreFault.TheVariants as faults
+use Rattle.ids_engine.proofs.OutOfBlocks.{same_fault}
 use Rattle.ids_server.specs.Runners.{Goes}
 use Rattle.ids_server.proofs.Answers.{always_err}
 use Rattle.ids_server.proofs.Taking.{next_left, on_done}
@@ -40,23 +42,28 @@ loop-effect-preserved g c =
       gone = gone.1;
       tables = ap (λ (T : Tables). apply_all T rest) tables ∙ sym (ap (apply_all store.tables) next) ∙ inv.tables;
       noted = ap (λ (es : List Effect). es ++ rest) noted ∙ append_assoc store.undo (e ∷ []) rest ∙ sym (ap (λ (es : List Effect). store.undo ++ es) next) ∙ inv.noted;
-      kept = λ since found earlier so_far keeps.
-          let k = inv.kept since found earlier so_far keeps in
-          (k.0 ++ e ∷ [], append_assoc k.0 (e ∷ []) rest ∙ sym (ap (λ (es : List Effect). k.0 ++ es) next) ∙ k.1, on_done _ _ is c.in_ok-change.ensures.done since found earlier k.0 k.2);
+      kept = λ since base found earlier so_far keeps.
+          let k = inv.kept since base found earlier so_far keeps in
+          (k.0 ++ e ∷ [], append_assoc k.0 (e ∷ []) rest ∙ sym (ap (λ (es : List Effect). k.0 ++ es) next) ∙ k.1, on_done _ _ is c.in_ok-change.ensures.done since base found earlier k.0 k.2);
       same = inv.same;
       later = omega (arith, inv.later, c.in_ok-change.ensures.later);
       counted = omega (arith, inv.counted, c.in_ok-change.ensures.counted);
     }
 
 pub returns-in_err-change-clause-survives : goal.returns-in_err-change-clause-survives
-returns-in_err-change-clause-survives g c = always_err c.from_residual.result (λ since found earlier so_far keeps.
-    let k = c.loop-effect.invariant.kept since found earlier so_far keeps in
-    c.in_err-change.ensures.err since found earlier k.0 k.2)
+returns-in_err-change-clause-survives g c = always_err c.from_residual.result (λ since base found earlier so_far keeps.
+    let k = c.loop-effect.invariant.kept since base found earlier so_far keeps in
+    c.in_err-change.ensures.err since base found earlier k.0 k.2)
 
 pub returns-clause-kept : goal.returns-clause-kept
-returns-clause-kept g c = λ since found earlier so_far keeps.
-    let k = c.loop-effect.invariant.kept since found earlier so_far keeps in
+returns-clause-kept g c = λ since base found earlier so_far keeps.
+    let k = c.loop-effect.invariant.kept since base found earlier so_far keeps in
     let le : length c.args.gone.now ≤ c.loop-effect.effect-index = omega (arith, c.loop-effect-test.false) in
     let none : drop c.loop-effect.effect-index c.args.gone.now ≡ [] = drop_of_length-le c.args.gone.now le in
     let all : k.0 ≡ so_far ++ c.args.gone.now = sym (append-nil k.0) ∙ sym (ap (λ (es : List Effect). k.0 ++ es) none) ∙ k.1 in
-    subst (λ (es : List Effect). KeepsStore g.D.Disk.tells g.D.Disk.size g.D.Disk.now g.D.Disk.image g.D.Disk.can_leave g.D.Disk.left_at since found earlier es c.loop-effect.self.store c.loop-effect.disk) all k.2
+    subst (λ (es : List Effect). KeepsStore g.D.Disk.tells g.D.Disk.size g.D.Disk.now g.D.Disk.image g.D.Disk.can_leave g.D.Disk.left_at since base found earlier es c.loop-effect.self.store c.loop-effect.disk) all k.2
+
+pub returns-in_err-change-clause-out_of_blocks : goal.returns-in_err-change-clause-out_of_blocks
+returns-in_err-change-clause-out_of_blocks g c = λ full since base found earlier so_far keeps.
+    let k = c.loop-effect.invariant.kept since base found earlier so_far keeps in
+    c.in_err-change.ensures.out_of_blocks (same_fault c.from_residual.result c.in_err-change.field-0.0 faults.LogFull c.from_residual.ensures.1 full) since base found earlier k.0 k.2
