@@ -27,10 +27,11 @@ impl Store {
     /// end. A stop at any moment leaves the tables as they were.
     ///
     /// Errors, in the order in which they are looked for: `NotFormatted` and `Damaged` as the identity page and the checkpoint
-    /// pages say; `Damaged` also where the newest checkpoint is not the one that formatting writes, or a record of the log is
-    /// out of order; `LogFull` where a transaction is open and the log has no block left; `Damaged` with a row id where the rows
-    /// that the log leaves are no well formed ones; `Disk` only where a call of the disk failed; `Memory` where memory was
-    /// wanting.
+    /// pages say; `Damaged` also where the newest checkpoint is not the one that formatting writes, and at the first record of
+    /// the log that is out of order or not in its place: a change names a page and a slot that are there, in a page of its table
+    /// and its row's length, and an insert may name a page that has no owner yet; `LogFull` where a transaction is open and the
+    /// log has no block left; `Damaged` with a row id where the rows that the log leaves are no well formed ones; `Disk` only
+    /// where a call of the disk failed; `Memory` where memory was wanting.
     ///
     /// Three pages are read twice, each block of the log once and once more where it is not taken; at most three writes for
     /// each block that is closed or taken, and some syncs. It takes memory for the rows of the log twice, and 16 KB.
