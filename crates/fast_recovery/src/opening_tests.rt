@@ -25,7 +25,7 @@ const SMALL: Layout = Layout {
     root: 43,
 };
 
-const FIRST: &[u8] = b"\x00\x00\x00\x01one ";
+pub(crate) const FIRST: &[u8] = b"\x00\x00\x00\x01one ";
 
 const SECOND: &[u8] = b"\x00\x00\x00\x02two ";
 
@@ -49,7 +49,7 @@ fn format<D: Disk>(disk: &mut D) -> Result<(), MapFault> {
 }
 
 // Appends blocks to an empty log.
-fn append<D: Disk>(disk: &mut D, bodies: &[BlockBody]) -> Result<(), OpenFault>
+pub(crate) fn append<D: Disk>(disk: &mut D, bodies: &[BlockBody]) -> Result<(), OpenFault>
     requires numbered { AreNumbered 1 bodies.now }
     requires few { length bodies.now ≤ 2 }
 {
@@ -66,7 +66,7 @@ fn append<D: Disk>(disk: &mut D, bodies: &[BlockBody]) -> Result<(), OpenFault>
     Ok(())
 }
 
-fn insert(alloc: Global, tx: u64, slot: u32, bytes: &[u8]) -> Result<Record, Fail> {
+pub(crate) fn insert(alloc: Global, tx: u64, slot: u32, bytes: &[u8]) -> Result<Record, Fail> {
     if bytes.is_empty() || bytes.len() > 800 {
         return Err("no row".into());
     }
@@ -79,7 +79,7 @@ fn insert(alloc: Global, tx: u64, slot: u32, bytes: &[u8]) -> Result<Record, Fai
 }
 
 // A body of these records.
-fn body(rt: &impl Abort, number: u64, records: &[Record]) -> BlockBody
+pub(crate) fn body(rt: &impl Abort, number: u64, records: &[Record]) -> BlockBody
     ensures number { result.number ≡ number }
     ensures some { 1 ≤ length result.entries }
 {
@@ -95,7 +95,7 @@ fn body(rt: &impl Abort, number: u64, records: &[Record]) -> BlockBody
 
 // What is found: the rows in two slots, the greatest transaction, and the block that comes next.
 #[derive(Clone, Copy, Debug, Drop, PartialEq, Eq)]
-struct Summary {
+pub(crate) struct Summary {
     has_first: bool,
     has_second: bool,
     has_standing: bool,
@@ -103,7 +103,7 @@ struct Summary {
     next: u64,
 }
 
-fn open<D: Disk>(alloc: Global, disk: &mut D) -> Result<Summary, OpenFault> {
+pub(crate) fn open<D: Disk>(alloc: Global, disk: &mut D) -> Result<Summary, OpenFault> {
     let opened = open_log(alloc, disk)?;
     Ok(Summary {
         has_first: opened.replay.row_at(257) == Some(FIRST),
@@ -114,7 +114,7 @@ fn open<D: Disk>(alloc: Global, disk: &mut D) -> Result<Summary, OpenFault> {
     })
 }
 
-fn small_disk(rt: &impl Abort, alloc: Global) -> Result<MemDisk, Fail> {
+pub(crate) fn small_disk(rt: &impl Abort, alloc: Global) -> Result<MemDisk, Fail> {
     let mut disk = MemDisk::new(alloc, &[43, 2], Vec::new(alloc))?;
     assert_eq!(rt; format(&mut disk), Ok(()));
     Ok(disk)
