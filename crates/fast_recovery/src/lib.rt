@@ -7,6 +7,8 @@
 #![tactic(auto)]
 
 mod catalogue;
+#[cfg(test)]
+mod damage_tests;
 mod fault;
 mod in_place;
 pub mod keys;

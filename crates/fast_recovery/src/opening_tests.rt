@@ -28,6 +28,8 @@ const SMALL: Layout = Layout {
     root: 43,
 };
 
+pub(crate) const FIRST: &[u8] = b"\x00\x00\x00\x01one ";
+
 // Writes the identity, and the first checkpoint page.
 fn format<D: Disk>(disk: &mut D) -> Result<(), MapFault> {
     if !SMALL.is_in_range() || !has_pages(disk, &SMALL) {
@@ -48,7 +50,7 @@ fn format<D: Disk>(disk: &mut D) -> Result<(), MapFault> {
 }
 
 // Appends blocks to an empty log.
-fn append<D: Disk>(disk: &mut D, bodies: &[BlockBody]) -> Result<(), OpenFault>
+pub(crate) fn append<D: Disk>(disk: &mut D, bodies: &[BlockBody]) -> Result<(), OpenFault>
     requires numbered { AreNumbered 1 bodies.now }
     requires few { length bodies.now ≤ 2 }
 {
@@ -76,8 +78,20 @@ fn create(alloc: Global, tx: u64, slot: u32, number: u8, name: u8) -> Result<Rec
     })
 }
 
+pub(crate) fn insert(alloc: Global, tx: u64, slot: u32, bytes: &[u8]) -> Result<Record, Fail> {
+    if bytes.is_empty() || bytes.len() > 800 {
+        return Err("no row".into());
+    }
+    Ok(Record::HInsert {
+        tx,
+        table: 100,
+        row: RowId::from_number(slot),
+        after: RowBytes::new(alloc, bytes)?,
+    })
+}
+
 // A body of these records.
-fn body(rt: &impl Abort, number: u64, records: &[Record]) -> BlockBody
+pub(crate) fn body(rt: &impl Abort, number: u64, records: &[Record]) -> BlockBody
     ensures number { result.number ≡ number }
     ensures some { 1 ≤ length result.entries }
 {
@@ -93,7 +107,7 @@ fn body(rt: &impl Abort, number: u64, records: &[Record]) -> BlockBody
 
 // What is found: whether there are the tables t and u, the greatest transaction, and the block that comes next.
 #[derive(Clone, Copy, Debug, Drop, PartialEq, Eq)]
-struct Summary {
+pub(crate) struct Summary {
     has_first: bool,
     has_second: bool,
     has_standing: bool,
@@ -108,7 +122,7 @@ fn has_table(found: &Found, name: &[u8]) -> bool {
     }
 }
 
-fn open<D: Disk>(alloc: Global, disk: &mut D) -> Result<Summary, OpenFault> {
+pub(crate) fn open<D: Disk>(alloc: Global, disk: &mut D) -> Result<Summary, OpenFault> {
     let opened = open_log(alloc, disk)?;
     Ok(Summary {
         has_first: has_table(&opened.found, b"t"),
@@ -119,7 +133,7 @@ fn open<D: Disk>(alloc: Global, disk: &mut D) -> Result<Summary, OpenFault> {
     })
 }
 
-fn small_disk(rt: &impl Abort, alloc: Global) -> Result<MemDisk, Fail> {
+pub(crate) fn small_disk(rt: &impl Abort, alloc: Global) -> Result<MemDisk, Fail> {
     let mut disk = MemDisk::new(alloc, &[43, 2], Vec::new(alloc))?;
     assert_eq!(rt; format(&mut disk), Ok(()));
     Ok(disk)

@@ -26,10 +26,11 @@ impl Store {
     /// behind that, unless the disk failed.
     ///
     /// Errors, in the order in which they are looked for: `NotFormatted` and `Damaged` as the identity page and the checkpoint
-    /// pages say; `Damaged` also where the newest checkpoint is not the one that formatting writes, where a record of the log is
-    /// out of order or not in its place, or, with its row id, where the log leaves a row that breaks a rule of well formed rows; `LogFull` where a
-    /// transaction is open and the log has no block left; `Disk` only where a call of the disk failed; `Memory` where memory was
-    /// wanting. Where the disk is refused, nothing was written.
+    /// pages say; `Damaged` also where the newest checkpoint is not the one that formatting writes, at the first record of the
+    /// log that is out of order or not in its place (a change names a page and a slot that are there, in a page of its table and
+    /// its row's length, and an insert may name a page that has no owner yet), and, with its row id, where the log leaves a row
+    /// that breaks a rule of well formed rows; `LogFull` where a transaction is open and the log has no block left; `Disk` only
+    /// where a call of the disk failed; `Memory` where memory was wanting. Where the disk is refused, nothing was written.
     ///
     /// Three pages are read twice, each block of the log once and once more where it is not taken; at most three writes for
     /// each block that is closed or taken, and some syncs. It takes memory for the rows of the log twice, and 16 KB.
