@@ -4,3 +4,4 @@ pub mod Noted
 pub mod Named
 pub mod Fronts
 pub mod Alone
+pub mod MarkTrees

@@ -5,6 +5,7 @@ pub mod Fronts
 pub mod Kept
 pub mod Least
 pub mod Lines
+pub mod Marks
 pub mod Noted
 pub mod Owners
 pub mod Places

@@ -9,6 +9,7 @@ pub mod entry;
 mod front;
 mod ledger;
 mod lengths;
+mod marks;
 pub mod owners;
 mod places;
 pub mod space;
