@@ -1,5 +1,9 @@
 pub mod Keys
-pub mod Lines
+pub mod Marking
+pub mod Naming
+pub mod Indexing
+pub mod Ending
+pub mod EndingUnder
 pub mod Noted
 pub mod Named
 pub mod Fronts

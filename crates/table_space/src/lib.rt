@@ -5,6 +5,7 @@
 
 pub mod catalogue;
 pub mod directory;
+mod entries;
 pub mod entry;
 mod front;
 mod ledger;

@@ -1,5 +1,5 @@
 //! Marks on places, and the next place with a mark.
-ghost use Rattle.std.specs.Prelude.{◌≡◌, ◌≤◌, ◌<◌, ◌+◌, ◌*◌, ◌==◌, ℕ, drop, IfOk, MatchOption, length, slice_index, slice_set};
+ghost use Rattle.std.specs.Prelude.{◌≡◌, ◌≤◌, ◌<◌, ◌+◌, ◌*◌, ◌==◌, ℕ, drop, IfOk, IfSome, MatchOption, length, slice_index, slice_set};
 ghost use Rattle.std.specs.Int.{bit_at};
 ghost use Rattle.table_space.specs.Marks.{IsPower, IsTree, IsLaw, IsUnmarked, IsNext, IsNextBelow, IsUnmarkedBelow};
 
@@ -31,7 +31,7 @@ impl Model for Marks {
 
 impl Marks {
     /// At least so many places, without marks. Answers `Memory` for want of memory, which it takes in proportion, and for more than 2^31 places.
-    pub(crate) fn new(alloc: Global, places: u32) -> Result<Marks, Memory>
+    pub(crate) fn new(alloc: Global, places: usize) -> Result<Marks, Memory>
         ensures room { IfOk result (λ marks. places ≤ length marks) }
         ensures none { IfOk result (λ marks. (place : ℕ) → slice_index marks place ≡ 0) }
     {
@@ -42,9 +42,31 @@ impl Marks {
         })
     }
 
+    /// The same marks on more places. Answers `Memory` for want of memory, which it takes in proportion to the places, and for more than
+    /// 2^31 of them. Linear in the places, times a logarithm.
+    pub(crate) fn longer(&self, alloc: Global) -> Result<Marks, Memory>
+        ensures more { IfOk result (λ marks. length self.now < length marks) }
+        ensures same { IfOk result (λ marks. (place : ℕ) → slice_index marks place ≡ slice_index self.now place) }
+    {
+        let mut longer = Marks::new(alloc, self.len() + 1)?;
+        for place in 0..self.len() {
+            longer.set(place, self.get(place));
+        }
+        Ok(longer)
+    }
+
+    // The marks of a place.
+    fn get(&self, place: usize) -> u64
+        requires { place < length self.now }
+        ensures { result ≡ slice_index self.now place }
+    {
+        self.nodes[self.width + place]
+    }
+
     /// How many places there are. Constant time.
     pub(crate) fn len(&self) -> usize
-        ensures { result ≡ length self.now }
+        ensures len { result ≡ length self.now }
+        ensures few { result ≤ 2147483648 }
     {
         self.width
     }
@@ -60,18 +82,19 @@ impl Marks {
     /// The least place from one on that has a mark, if there is one. Logarithmic in the places.
     pub(crate) fn next(&self, from: usize, mark: u32) -> Option<usize>
         requires { mark < 64 }
-        ensures { MatchOption result (IsUnmarked self.now mark from (length self.now)) (IsNext self.now mark from) }
+        ensures found { MatchOption result (IsUnmarked self.now mark from (length self.now)) (IsNext self.now mark from) }
+        ensures few { IfSome result (λ place. place < 2147483648) }
     {
         next_below(&self.nodes, 1, self.width, from, mark)
     }
 }
 
 // The least power of two from a number on, where it is at most 2^31.
-fn power_from(least: u32) -> Option<usize>
+fn power_from(least: usize) -> Option<usize>
     ensures { MatchOption result (Unit {0}) (λ width. IsPower width × (least ≤ width) × (width ≤ 2147483648)) }
 {
     let mut width = 1;
-    while width < least as usize {
+    while width < least {
         if width > 1073741824 {
             return None;
         }
