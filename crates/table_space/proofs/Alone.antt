@@ -1,15 +1,12 @@
 -- The row id of a key whose entry is filled or emptied, where no other is filled.
 use Rattle.std.proofs.Common.{◌≡◌, ℕ, Bool, true, false, not, ◌&&◌, ◌||◌, refl, ◌∙◌, List, [], ◌∷◌, map, cond, Option, Some, None, if◌then◌else◌}
 use Rattle.std.specs.List.{filter, list_any}
-use Rattle.ids_base.specs.declared.lock.Key.{Key}
-use Rattle.table_space.specs.declared.entry.Line.{Line}
-use Rattle.table_space.specs.Lines.{is_of, entries_in, meets}
 use Rattle.std.proofs.lemmas.Bool.{and_parts, and_from}
 use Rattle.table_space.specs.declared.entry.Entry.{Entry}
 use Rattle.table_space.specs.declared.entry.Held.{Held}
 use Rattle.table_space.specs.declared.entry.Held.TheVariants.{Nowhere, Emptied, Filled}
 use Rattle.table_space.specs.Entries.{filled_row, is_filled, has_row, is_new}
-use Rattle.table_space.specs.Noted.{or_else, row_of, put_first, changed, noted, has_entry_for, is_empty, is_alone, is_alone_from}
+use Rattle.table_space.specs.Noted.{or_else, row_of, put_first, changed, noted, has_entry_for, is_empty, is_alone, is_alone_from, met_after}
 
 no_row : (h : Held) → not (is_filled h) ≡ true → filled_row h ≡ None
 no_row Nowhere h = refl
@@ -66,27 +63,25 @@ noted-there row tx filled es some alone = at (list_any (has_row row) es) refl so
     at true is h = first-alone row (changed row filled tx) es is alone ∙ changed-row row tx filled
     at false is h = new-alone (changed row filled tx) es (and_parts _ _ h).1 (no_row-empty row es is alone) ∙ changed-row row tx filled
 
--- a line more, where the first entry with the row id was met or is still to come
-pub next_some : (t : ℕ) (k : Key) (row : ℕ) (met : Bool) (l : Line) (ls : List Line) (m : Bool) → meets t k row met l ≡ Some m → is_alone_from m row (entries_in ls t k) ≡ is_alone_from met row (entries_in (l ∷ ls) t k)
-next_some t k row met l ls m h = at (is_of t k l) met (has_row row l.entry) (is_filled l.entry.held) refl refl h
+-- an entry more, where the first with the row id was met or is still to come
+pub next_some : (row : ℕ) (met : Bool) (e : Entry) (es : List Entry) (m : Bool) → met_after row met e ≡ Some m → is_alone_from m row es ≡ is_alone_from met row (e ∷ es)
+next_some row met e es m h = at met (has_row row e) (is_filled e.held) refl refl h
   where
-    at : (c b r f : Bool) → has_row row l.entry ≡ r → is_filled l.entry.held ≡ f → (if c then (if not b && r then Some true else (if f then None else Some b)) else Some b) ≡ Some m
-        → is_alone_from m row (entries_in ls t k) ≡ is_alone_from b row (map (λ (x : Line). x.entry) (cond c (l ∷ filter (is_of t k) ls) (filter (is_of t k) ls)))
-    at false b r f p q e = let same : m ≡ b = cc in rw same refl
-    at true true r true p q e = absurd (cc)
-    at true true r false p q e = let same : m ≡ true = cc in rw (same, q) refl
-    at true false true f p q e = let same : m ≡ true = cc in rw (same, p) refl
-    at true false false true p q e = absurd (cc)
-    at true false false false p q e = let same : m ≡ false = cc in rw (same, p, q) refl
+    at : (b r f : Bool) → has_row row e ≡ r → is_filled e.held ≡ f → (if not b && r then Some true else (if f then None else Some b)) ≡ Some m
+        → is_alone_from m row es ≡ is_alone_from b row (e ∷ es)
+    at true r true p q h = absurd (cc)
+    at true r false p q h = let same : m ≡ true = cc in rw (same, q) refl
+    at false true f p q h = let same : m ≡ true = cc in rw (same, p) refl
+    at false false true p q h = absurd (cc)
+    at false false false p q h = let same : m ≡ false = cc in rw (same, p, q) refl
 
-pub next_none : (t : ℕ) (k : Key) (row : ℕ) (met : Bool) (l : Line) (ls : List Line) → meets t k row met l ≡ None → is_alone_from met row (entries_in (l ∷ ls) t k) ≡ false
-next_none t k row met l ls h = at (is_of t k l) met (has_row row l.entry) (is_filled l.entry.held) refl refl h
+pub next_none : (row : ℕ) (met : Bool) (e : Entry) (es : List Entry) → met_after row met e ≡ None → is_alone_from met row (e ∷ es) ≡ false
+next_none row met e es h = at met (has_row row e) (is_filled e.held) refl refl h
   where
-    at : (c b r f : Bool) → has_row row l.entry ≡ r → is_filled l.entry.held ≡ f → (if c then (if not b && r then Some true else (if f then None else Some b)) else Some b) ≡ None
-        → is_alone_from b row (map (λ (x : Line). x.entry) (cond c (l ∷ filter (is_of t k) ls) (filter (is_of t k) ls))) ≡ false
-    at false b r f p q e = absurd (cc)
-    at true true r true p q e = rw q refl
-    at true true r false p q e = absurd (cc)
-    at true false true f p q e = absurd (cc)
-    at true false false true p q e = rw (p, q) refl
-    at true false false false p q e = absurd (cc)
+    at : (b r f : Bool) → has_row row e ≡ r → is_filled e.held ≡ f → (if not b && r then Some true else (if f then None else Some b)) ≡ None
+        → is_alone_from b row (e ∷ es) ≡ false
+    at true r true p q h = rw q refl
+    at true r false p q h = absurd (cc)
+    at false true f p q h = absurd (cc)
+    at false false true p q h = rw (p, q) refl
+    at false false false p q h = absurd (cc)

@@ -1,6 +1,11 @@
 pub mod Keys
-pub mod Lines
+pub mod Marking
+pub mod Naming
+pub mod Indexing
+pub mod Ending
+pub mod EndingUnder
 pub mod Noted
 pub mod Named
 pub mod Fronts
 pub mod Alone
+pub mod MarkTrees

@@ -2,10 +2,12 @@ pub mod Catalogue
 pub mod Directory
 pub mod Entries
 pub mod Fronts
+pub mod Indexed
 pub mod Kept
 pub mod Least
-pub mod Lines
+pub mod Marks
 pub mod Noted
+pub mod Numbers
 pub mod Owners
 pub mod Places
 pub mod Seen

@@ -48,3 +48,7 @@ is_alone row (e ∷ es) = if has_row row e then is_empty es else not (is_filled 
 -- the same, where the first with this row id was met or is still to come
 abbrev pub is_alone_from : Bool → ℕ → List Entry → Bool
 is_alone_from met row es = if met then is_empty es else is_alone row es
+
+-- whether the first entry with a row id was met, once an entry was seen; none where another is filled
+abbrev pub met_after : ℕ → Bool → Entry → Option Bool
+met_after row met e = if not met && has_row row e then Some true else (if is_filled e.held then None else Some met)

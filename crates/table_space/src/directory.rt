@@ -1,126 +1,241 @@
 //! The directory of keys.
-ghost use Rattle.std.specs.Prelude.{◌≡◌, ◌&&◌, ◌++◌, ◌∷◌, [], ◌↔◌, ℕ, true, OnOk, OnErr, IsTrue};
-ghost use Rattle.std.specs.List.{position, list_any};
+ghost use Rattle.std.specs.Prelude.{◌≡◌, ◌≢◌, ◌&&◌, ◌++◌, ◌∷◌, ◌<◌, ◌≤◌, [], ◌↔◌, ℕ, true, None, Some, IfOk, OnOk, OnErr, IsTrue, IsSome, length};
+ghost use Rattle.std.specs.List.{list_any, slice_get, filter};
 ghost use Rattle.ids_base.specs.declared.lock.Key.{Key as TheKey};
-ghost use Rattle.table_space.specs.Entries.{has_row, is_new, blocks, fills};
+ghost use Rattle.table_space.specs.Entries.{has_row, is_new, blocks, fills, stays};
 ghost use Rattle.ids_base.specs.RowIds.{row_number};
 ghost use Rattle.table_space.specs.Fronts.{AreFilled, IsFilled};
-ghost use Rattle.table_space.specs.Lines.{is_of};
-ghost use Rattle.table_space.specs.Noted.{row_of, made, changed, noted, has_entry_for, is_alone};
-ghost use Rattle.table_space.specs.Directory.{entries_at};
+ghost use Rattle.table_space.specs.Indexed.{IsIndexed};
+ghost use Rattle.table_space.specs.Numbers.{number_of, entries_in, entries_under};
+ghost use Rattle.table_space.specs.Noted.{row_of, made, noted, has_entry_for, is_alone};
 ghost use Rattle.table_space.specs.Seen.{Changes, IsSame, Ends, IsBlocked};
 
-use crate::entry::{Entry, Held, Line};
+use crate::entries;
+use crate::entries::FREE;
+use crate::entry::{Entry, Keyed};
+use crate::marks::Marks;
 use ids_base::lock::Key;
 use ids_base::memory::Memory;
 use ids_base::numbers::{TableNo, TxNo};
 use ids_base::row_id::RowId;
 use std::alloc::Global;
+use std::collections::BTreeMap;
 
 /// The entries of all keys. Contracts see the entries of each table and key.
+///
+/// Each key that has entries has a number, under which they stand in `listed`; `marks` finds the numbers of entries that go with a
+/// transaction, and those that are free.
 #[derive(Drop)]
 pub struct Directory {
-    lines: Vec<Line>,
+    numbers: BTreeMap<(TableNo, Key), usize>,
+    listed: Vec<Keyed>,
+    marks: Marks,
+    alloc: Global,
+    ghost indexed: { IsIndexed numbers listed.items marks },
 }
 
 impl Directory {
-    /// No key has an entry. Takes no memory.
-    pub(crate) fn new(alloc: Global) -> Directory
-        ensures { (t : ℕ) (k : TheKey) → entries_at result t k ≡ [] }
+    ghost use Rattle.table_space.specs.Directory.{entries_at, EndsUnder};
+
+    /// No key has an entry. It takes memory, the same for each directory.
+    pub(crate) fn new(alloc: Global) -> Result<Directory, Memory>
+        ensures { IfOk result (λ directory. (t : ℕ) (k : TheKey) → entries_at directory t k ≡ []) }
     {
-        Directory {
-            lines: Vec::new(alloc),
+        Ok(Directory {
+            numbers: BTreeMap::new(alloc),
+            listed: Vec::new(alloc),
+            marks: Marks::new(alloc, 1)?,
+            alloc,
+        })
+    }
+
+    // The number of a key, if it has one.
+    fn number(&self, table: TableNo, key: &Key) -> Option<usize>
+        ensures { result ≡ number_of self.now.numbers table key.now }
+    {
+        self.numbers.get(&(table, *key)).copied()
+    }
+
+    // The entries of a key.
+    fn entries(&self, table: TableNo, key: &Key) -> &[Entry]
+        ensures { result.now ≡ entries_at self.now table key.now }
+    {
+        match self.number(table, key) {
+            None => &[],
+            Some(number) => self.listed[number].entries.as_slice(),
         }
     }
 
-    /// The row id of the key's filled entry, if it has one. Linear in the entries.
+    /// The row id of the key's filled entry, if it has one. Logarithmic in the keys, and linear in the key's entries.
     pub(crate) fn row_of(&self, table: TableNo, key: &Key) -> Option<u32>
         ensures { result ≡ row_of (entries_at self.now table key.now) }
     {
-        for line in &self.lines {
-            if line.is_of(table, key) {
-                if let Some(row) = line.entry.row() {
-                    return Some(row);
-                }
-            }
-        }
-        None
+        entries::row_of(self.entries(table, key))
     }
 
-    /// An entry more of a key, which has no row id. Without memory all stays as it was. Amortised constant time.
+    /// Whether the key has an entry with this row id or, where it is to be filled, one without a row id. Logarithmic in the keys, and
+    /// linear in the key's entries.
+    pub(crate) fn has_entry_for(&self, table: TableNo, key: &Key, row: u32, filled: bool) -> bool
+        ensures { result ≡ has_entry_for row filled (entries_at self.now table key.now) }
+    {
+        entries::has_entry_for(self.entries(table, key), row, filled)
+    }
+
+    /// Whether no entry of the key is filled but the first with this row id. Logarithmic in the keys, and linear in the key's entries.
+    pub(crate) fn is_alone(&self, table: TableNo, key: &Key, row: u32) -> bool
+        ensures { result ≡ is_alone row (entries_at self.now table key.now) }
+    {
+        entries::is_alone(self.entries(table, key), row)
+    }
+
+    /// An entry more of a key, which has no row id. Without memory all stays as it was. Logarithmic in the keys, linear in the key's
+    /// entries, and amortised.
     pub(crate) fn enter(&mut self, table: TableNo, key: &Key, tx: TxNo) -> Result<(), Memory>
         ensures entered { OnOk result (Changes (entries_at self.old) (entries_at self.new) table key.now (entries_at self.old table key.now ++ made tx ∷ [])) }
         ensures err { OnErr result (IsSame (entries_at self.old) (entries_at self.new)) }
     {
-        self.lines.push(Line {
-            table,
-            key: *key,
-            entry: made(tx),
-        })?;
+        match self.number(table, key) {
+            Some(number) => self.enter_under(number, table, key, tx),
+            None => {
+                let number = self.free_number(table, key)?;
+                self.enter_first(number, table, key, tx)
+            }
+        }
+    }
+
+    // An entry more of a key that has a number.
+    fn enter_under(
+        &mut self,
+        number: usize,
+        table: TableNo,
+        key: &Key,
+        tx: TxNo,
+    ) -> Result<(), Memory>
+        requires { number_of self.old.numbers table key.now ≡ Some number }
+        ensures entered { OnOk result (Changes (entries_at self.old) (entries_at self.new) table key.now (entries_at self.old table key.now ++ made tx ∷ [])) }
+        ensures err { OnErr result (IsSame (entries_at self.old) (entries_at self.new)) }
+    {
+        let keyed = &mut self.listed[number];
+        keyed.entries.push(entries::made(tx))?;
+        let marks = entries::marks_of(keyed.entries.as_slice());
+        self.marks.set(number, marks);
         Ok(())
     }
 
-    /// The entry of the key with this row id, else one without a row id, gets the row id and is filled or emptied. Linear in the
-    /// entries; takes no memory.
+    // The first entry of a key, under a number that is free.
+    fn enter_first(
+        &mut self,
+        number: usize,
+        table: TableNo,
+        key: &Key,
+        tx: TxNo,
+    ) -> Result<(), Memory>
+        requires unnamed { number_of self.old.numbers table key.now ≡ None }
+        requires there { number < length self.old.listed.items }
+        requires free { entries_in (slice_get self.old.listed.items number) ≡ [] }
+        ensures entered { OnOk result (Changes (entries_at self.old) (entries_at self.new) table key.now (made tx ∷ [])) }
+        ensures err { OnErr result (IsSame (entries_at self.old) (entries_at self.new)) }
+    {
+        let mut entries = Vec::new(self.alloc);
+        entries.push(entries::made(tx))?;
+        let marks = entries::marks_of(entries.as_slice());
+        self.numbers.insert((table, *key), number)?;
+        self.listed[number] = Keyed {
+            table,
+            key: *key,
+            entries,
+        };
+        self.marks.set(number, marks);
+        Ok(())
+    }
+
+    // A number that is free.
+    fn free_number(&mut self, table: TableNo, key: &Key) -> Result<usize, Memory>
+        ensures there { IfOk result (λ number. number < length self.new.listed.items) }
+        ensures free { IfOk result (λ number. entries_in (slice_get self.new.listed.items number) ≡ []) }
+        ensures numbers { self.new.numbers ≡ self.old.numbers }
+        ensures same { IsSame (entries_at self.old) (entries_at self.new) }
+    {
+        match self.marks.next(0, FREE) {
+            Some(number) => Ok(number),
+            None => self.add_number(table, key),
+        }
+    }
+
+    // A number more, which is free.
+    fn add_number(&mut self, table: TableNo, key: &Key) -> Result<usize, Memory>
+        ensures there { IfOk result (λ number. number < length self.new.listed.items) }
+        ensures free { IfOk result (λ number. entries_in (slice_get self.new.listed.items number) ≡ []) }
+        ensures numbers { self.new.numbers ≡ self.old.numbers }
+        ensures same { IsSame (entries_at self.old) (entries_at self.new) }
+    {
+        let number = self.listed.len();
+        self.make_room(number)?;
+        let marks = entries::marks_of(&[]);
+        self.listed.push(Keyed {
+            table,
+            key: *key,
+            entries: Vec::new(self.alloc),
+        })?;
+        self.marks.set(number, marks);
+        Ok(number)
+    }
+
+    // Marks for a number.
+    fn make_room(&mut self, number: usize) -> Result<(), Memory>
+        requires { number ≤ length self.old.marks }
+        ensures room { OnOk result (number < length self.new.marks) }
+        ensures numbers { self.new.numbers ≡ self.old.numbers }
+        ensures listed { self.new.listed ≡ self.old.listed }
+    {
+        if number >= self.marks.len() {
+            self.marks = self.marks.longer(self.alloc)?;
+        }
+        Ok(())
+    }
+
+    /// The entry of the key with this row id, else one without a row id, gets the row id and is filled or emptied. Logarithmic in the keys,
+    /// and linear in the key's entries; takes no memory.
     pub(crate) fn note(&mut self, table: TableNo, key: &Key, row: u32, filled: bool, tx: TxNo)
         requires { has_entry_for row filled (entries_at self.old table key.now) ≡ true }
         ensures { Changes (entries_at self.old) (entries_at self.new) table key.now (noted row filled tx (entries_at self.old table key.now)) }
     {
-        let line = Line {
-            table,
-            key: *key,
-            entry: changed(row, filled, tx),
-        };
-        match with_row(&self.lines, table, key, row) {
-            Some(at) => self.lines[at] = line,
-            None => match without_row(&self.lines, table, key) {
-                Some(at) => self.lines[at] = line,
-                None => unreachable!(),
-            },
-        }
-    }
-
-    /// Whether the key has an entry with this row id or, where it is to be filled, one without a row id. Linear in the entries.
-    pub(crate) fn has_entry_for(&self, table: TableNo, key: &Key, row: u32, filled: bool) -> bool
-        ensures { result ≡ has_entry_for row filled (entries_at self.now table key.now) }
-    {
-        self.has_row(table, key, row) || filled && self.has_new(table, key)
-    }
-
-    // Whether an entry of the key has this row id.
-    fn has_row(&self, table: TableNo, key: &Key, row: u32) -> bool
-        ensures { result ≡ list_any (has_row row) (entries_at self.now table key.now) }
-    {
-        some_with_row(&self.lines, table, key, row)
-    }
-
-    // Whether an entry of the key has no row id.
-    fn has_new(&self, table: TableNo, key: &Key) -> bool
-        ensures { result ≡ list_any is_new (entries_at self.now table key.now) }
-    {
-        some_new(&self.lines, table, key)
-    }
-
-    /// Whether no entry of the key is filled but the first with this row id. Linear in the entries.
-    #[tactic(auto, using(crate::proofs::Alone::next_some, crate::proofs::Alone::next_none))]
-    pub(crate) fn is_alone(&self, table: TableNo, key: &Key, row: u32) -> bool
-        ensures { result ≡ is_alone row (entries_at self.now table key.now) }
-    {
-        let mut met = false;
-        for line in &self.lines {
-            match line.meets(table, key, row, met) {
-                Some(now) => met = now,
-                None => return false,
+        match self.number(table, key) {
+            Some(number) => {
+                let keyed = &mut self.listed[number];
+                entries::note(&mut keyed.entries, row, filled, tx);
+                let marks = entries::marks_of(keyed.entries.as_slice());
+                self.marks.set(number, marks);
             }
+            None => unreachable!(),
         }
-        true
     }
 
-    /// Drops the empty entries of a transaction. Linear in the entries; takes no memory.
+    /// Drops the empty entries of a transaction. In proportion to the keys with entries that go with a transaction whose number is the same
+    /// modulo 63, each in logarithmic time; takes no memory.
     pub(crate) fn end(&mut self, tx: TxNo)
         ensures { Ends (entries_at self.old) (entries_at self.new) tx }
     {
-        self.lines.retain(|line| line.entry.stays(tx));
+        let mut from = 0;
+        while let Some(number) = self.marks.next(from, entries::mark_of(tx)) {
+            self.end_under(number, tx);
+            from = number + 1;
+        }
+    }
+
+    // Drops the empty entries of a transaction under a number, which is free where none is left.
+    fn end_under(&mut self, number: usize, tx: TxNo)
+        requires { number < length self.old.marks }
+        ensures { EndsUnder self.old self.new number tx }
+    {
+        if number >= self.listed.len() {
+            return;
+        }
+        let keyed = &mut self.listed[number];
+        keyed.entries.retain(|entry| entry.stays(tx));
+        let marks = entries::marks_of(keyed.entries.as_slice());
+        unname(&mut self.numbers, keyed, number);
+        self.marks.set(number, marks);
     }
 
     /// Up to where the slots of a row's page are filled, no further than they were used, where they are up to one and the row is there. Linear in
@@ -143,85 +258,47 @@ impl Directory {
     fn fills(&self, row: u32) -> bool
         ensures { IsTrue result ↔ IsFilled (entries_at self.now) row }
     {
-        filled(&self.lines, row)
+        filled(&self.listed, row)
     }
 
     /// Whether an entry fills the slot, or reserves it for a transaction other than this one. Linear in the entries.
     pub(crate) fn blocks(&self, row: u32, tx: TxNo) -> bool
         ensures { IsTrue result ↔ IsBlocked (entries_at self.now) row tx }
     {
-        blocked(&self.lines, row, tx)
+        blocked(&self.listed, row, tx)
     }
 }
 
-// An entry that a transaction makes.
-fn made(tx: TxNo) -> Entry
-    ensures { result ≡ made tx }
+// Takes the number from a key without entries.
+fn unname(numbers: &mut BTreeMap<(TableNo, Key), usize>, keyed: &Keyed, number: usize)
+    ensures others { (t : ℕ) (k : TheKey) (n : ℕ) → n ≢ number → number_of numbers.old t k ≡ Some n → number_of numbers.new t k ≡ Some n }
+    ensures kept { (t : ℕ) (k : TheKey) (n : ℕ) → number_of numbers.new t k ≡ Some n → number_of numbers.old t k ≡ Some n }
+    ensures gone { number_of numbers.new keyed.now.table keyed.now.key ≡ Some number → keyed.now.entries.items ≢ [] }
+    ensures same { keyed.now.entries.items ≢ [] → numbers.new ≡ numbers.old }
 {
-    Entry {
-        held: Held::Nowhere,
-        tx,
+    if !keyed.entries.is_empty() {
+        return;
+    }
+    let name = (keyed.table, keyed.key);
+    if let Some(found) = numbers.get(&name).copied() {
+        if found == number {
+            numbers.remove(&name);
+        }
     }
 }
 
-// An entry with this row id that a transaction filled or emptied.
-fn changed(row: u32, filled: bool, tx: TxNo) -> Entry
-    ensures { result ≡ changed row filled tx }
+// Whether an entry blocks a slot.
+fn blocked(listed: &[Keyed], row: u32, tx: TxNo) -> bool
+    ensures { result ≡ list_any (λ l. list_any (blocks row tx) l.entries.items) listed.now }
 {
-    let held = if filled {
-        Held::Filled(row)
-    } else {
-        Held::Emptied(row)
-    };
-    Entry { held, tx }
+    listed.iter().any(|keyed| entries::some_block(keyed.entries.as_slice(), row, tx))
 }
 
-// Where the first entry of the key with this row id is.
-fn with_row(lines: &[Line], table: TableNo, key: &Key, row: u32) -> Option<usize>
-    ensures { result ≡ position (λ l. is_of table key.now l && has_row row l.entry) lines.now }
+// Whether an entry fills a slot.
+fn filled(listed: &[Keyed], row: u32) -> bool
+    ensures { result ≡ list_any (λ l. list_any (fills row) l.entries.items) listed.now }
 {
-    lines
+    listed
         .iter()
-        .position(|line| line.is_of(table, key) && line.entry.has_row(row))
-}
-
-// Where the first entry of the key without a row id is.
-fn without_row(lines: &[Line], table: TableNo, key: &Key) -> Option<usize>
-    ensures { result ≡ position (λ l. is_of table key.now l && is_new l.entry) lines.now }
-{
-    lines
-        .iter()
-        .position(|line| line.is_of(table, key) && line.entry.is_new())
-}
-
-// Whether one of the lines blocks a slot.
-fn blocked(lines: &[Line], row: u32, tx: TxNo) -> bool
-    ensures { result ≡ list_any (λ l. blocks row tx l.entry) lines.now }
-{
-    lines.iter().any(|line| line.entry.blocks(row, tx))
-}
-
-// Whether an entry of the key has this row id.
-fn some_with_row(lines: &[Line], table: TableNo, key: &Key, row: u32) -> bool
-    ensures { result ≡ list_any (λ l. is_of table key.now l && has_row row l.entry) lines.now }
-{
-    lines
-        .iter()
-        .any(|line| line.is_of(table, key) && line.entry.has_row(row))
-}
-
-// Whether an entry of the key has no row id.
-fn some_new(lines: &[Line], table: TableNo, key: &Key) -> bool
-    ensures { result ≡ list_any (λ l. is_of table key.now l && is_new l.entry) lines.now }
-{
-    lines
-        .iter()
-        .any(|line| line.is_of(table, key) && line.entry.is_new())
-}
-
-// Whether one of the lines fills a slot.
-fn filled(lines: &[Line], row: u32) -> bool
-    ensures { result ≡ list_any (λ l. fills row l.entry) lines.now }
-{
-    lines.iter().any(|line| line.entry.fills(row))
+        .any(|keyed| entries::some_fill(keyed.entries.as_slice(), row))
 }

@@ -1,8 +1,7 @@
 //! What the directory says of a key.
 ghost use Rattle.std.specs.Prelude.{◌≡◌};
-ghost use Rattle.ids_base.specs.LockNames.{is_same_key};
 ghost use Rattle.table_space.specs.Entries.{filled_row, is_filled, has_row, is_new, stays, blocks, fills};
-ghost use Rattle.table_space.specs.Lines.{is_of, meets};
+ghost use Rattle.table_space.specs.Noted.{met_after};
 
 use ids_base::lock::Key;
 use ids_base::numbers::{TableNo, TxNo};
@@ -22,40 +21,28 @@ pub struct Entry {
     pub tx: TxNo,
 }
 
-/// An entry, with its table and key.
-#[derive(Clone, Copy, Debug)]
-pub struct Line {
+/// The entries of a key of a table, in the order in which they were made.
+#[derive(Drop)]
+pub struct Keyed {
     pub table: TableNo,
     pub key: Key,
-    pub entry: Entry,
+    pub entries: Vec<Entry>,
 }
 
-impl Line {
-    /// Whether this is an entry of the table and the key. Constant time.
-    pub(crate) fn is_of(&self, table: TableNo, key: &Key) -> bool
-        ensures { result ≡ is_of table key.now self.now }
+impl Entry {
+    /// Whether the first entry of a key with the row id was met, once this entry was seen; `None` where another one is filled. Constant time.
+    pub(crate) fn meets(&self, row: u32, met: bool) -> Option<bool>
+        ensures { result ≡ met_after row met self.now }
     {
-        self.table == table && self.key == *key
-    }
-
-    /// Whether the first entry of the key with the row id was met, once this line was seen; `None` where another entry of the key is filled.
-    /// Constant time.
-    pub(crate) fn meets(&self, table: TableNo, key: &Key, row: u32, met: bool) -> Option<bool>
-        ensures { result ≡ meets table key.now row met self.now }
-    {
-        if !self.is_of(table, key) {
-            Some(met)
-        } else if !met && self.entry.has_row(row) {
+        if !met && self.has_row(row) {
             Some(true)
-        } else if self.entry.is_filled() {
+        } else if self.is_filled() {
             None
         } else {
             Some(met)
         }
     }
-}
 
-impl Entry {
     /// The row id, where the row is there. Constant time.
     pub(crate) fn row(&self) -> Option<u32>
         ensures { result ≡ filled_row self.now.held }

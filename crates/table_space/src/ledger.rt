@@ -26,9 +26,15 @@ pub struct Ledger {
 }
 
 impl Model for Ledger {
+    ghost use Rattle.std.specs.Prelude.{ℕ, List, Option, refl};
+    ghost use Rattle.std.specs.Coded.{code_by, coded×, coded_ℕ, coded_list, coded_option};
+    ghost use Rattle.table_space.specs.declared.directory.Directory.{Directory as TheDirectory};
+    ghost use Rattle.table_space.specs.contracts.directory.Directory.{the_row as directory_row};
     ghost use Rattle.table_space.specs.Kept.{Kept};
 
     ghost Value = { Kept };
+
+    ghost coded = { code_by (TheDirectory × List (Option ℕ)) (coded× directory_row.coded (coded_list (coded_option coded_ℕ))) (λ k. (k.directory, k.owners)) (λ p. record { directory = p.0; owners = p.1 }) (λ _. refl) };
 
     ghost use Rattle.std.specs.Prelude.{◌≡◌, length};
     ghost use Rattle.table_space.specs.Fronts.{AreFronts};
@@ -48,7 +54,7 @@ impl Ledger {
     {
         let front = Front { filled: 0, used: 0 };
         Ok(Ledger {
-            directory: Directory::new(alloc),
+            directory: Directory::new(alloc)?,
             owners: Owners::new(alloc, pages)?,
             fronts: vec![in alloc; front; pages as usize]?,
         })

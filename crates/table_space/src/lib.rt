@@ -5,10 +5,12 @@
 
 pub mod catalogue;
 pub mod directory;
+mod entries;
 pub mod entry;
 mod front;
 mod ledger;
 mod lengths;
+mod marks;
 pub mod owners;
 mod places;
 pub mod space;

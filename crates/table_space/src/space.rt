@@ -64,7 +64,7 @@ impl TableSpace {
         self.ledger.owners().pages()
     }
 
-    /// The row id of the key's filled entry; `None` exactly where it has none. Linear in the entries.
+    /// The row id of the key's filled entry; `None` exactly where it has none. Logarithmic in the keys, and linear in the key's entries.
     pub fn find(&self, table: TableNo, key: &Key) -> Option<RowId>
         ensures { MatchOption result (row_of (entries_of self.now table key.now) ≡ None) (λ row. row_of (entries_of self.now table key.now) ≡ Some (row_number row.page row.slot)) }
     {
@@ -75,7 +75,7 @@ impl TableSpace {
     }
 
     /// The table of this name that is there, the least number where there are several; `None` exactly where none is there. Linear in the
-    /// tables of that name and the entries.
+    /// tables, and logarithmic in the keys for each of that name.
     pub fn table_named(&self, name: &Name) -> Option<TableNo>
         ensures { MatchOption result ((t : ℕ) → ¬ IsNamed self.now name.now t) (IsLeastNamed self.now name.now) }
     {
@@ -121,7 +121,7 @@ impl TableSpace {
     }
 
     /// Whether `note` may be called: the key has an entry with this row id or, where it is filled, one without a row id, and no other
-    /// entry of the key is filled. Linear in the entries.
+    /// entry of the key is filled. Logarithmic in the keys, and linear in the key's entries.
     pub fn may_note(&self, table: TableNo, row: RowId, key: &Key, filled: bool) -> bool
         ensures { result ≡ (has_entry_for (row_number row.page row.slot) filled (entries_of self.now table key.now) && is_alone (row_number row.page row.slot) (entries_of self.now table key.now)) }
     {
@@ -132,7 +132,7 @@ impl TableSpace {
     }
 
     /// Keeps the name and the shape of a table, and makes an entry for its number in the catalogue, empty and without a row id.
-    /// Answers `Memory` only for want of memory, and all is as it was then. Amortised constant time, and a copy of the name.
+    /// Answers `Memory` only for want of memory, and all is as it was then. Logarithmic in the keys, amortised, and a copy of name and shape.
     pub fn enter_table(
         &mut self,
         table: TableNo,
@@ -157,7 +157,7 @@ impl TableSpace {
     }
 
     /// Makes an entry of the key, empty and without a row id. Answers `Memory` only for want of memory, and all is as it was then.
-    /// Amortised constant time.
+    /// Logarithmic in the keys, and amortised.
     pub fn enter_key(&mut self, table: TableNo, key: &Key, tx: TxNo) -> Result<(), Memory>
         ensures entered { OnOk result (Changes (entries_of self.old) (entries_of self.new) table key.now (entries_of self.old table key.now ++ made tx ∷ [])) }
         ensures owners { owners_of self.new ≡ owners_of self.old }
@@ -168,7 +168,8 @@ impl TableSpace {
     }
 
     /// Fills or empties the key's entry with this row id, else fills one without a row id and gives it this one; the row's page is the
-    /// table's. Linear in the entries, and once more for each slot behind the row's that is filled again with it; takes no memory.
+    /// table's. Logarithmic in the keys and linear in the key's entries, and linear in all entries for each slot behind the row's that is filled
+    /// again with it, and one more; takes no memory.
     pub fn note(&mut self, table: TableNo, row: RowId, key: &Key, filled: bool, tx: TxNo)
         requires found { has_entry_for (row_number row.page row.slot) filled (entries_of self.old table key.now) ≡ true }
         requires alone { is_alone (row_number row.page row.slot) (entries_of self.old table key.now) ≡ true }
@@ -182,7 +183,8 @@ impl TableSpace {
         self.ledger.note(table, key, row, filled, tx);
     }
 
-    /// Drops the empty entries of a transaction, and no others. Linear in the entries; takes no memory.
+    /// Drops the empty entries of a transaction, and no others. Logarithmic in the keys for each key with an empty entry of a transaction whose
+    /// number is the same modulo 63; takes no memory.
     pub fn end_tx(&mut self, tx: TxNo)
         ensures ended { Ends (entries_of self.old) (entries_of self.new) tx }
         ensures owners { owners_of self.new ≡ owners_of self.old }
