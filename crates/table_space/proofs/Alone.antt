@@ -1,6 +1,6 @@
 -- The row id of a key whose entry is filled or emptied, where no other is filled.
-use Rattle.std.proofs.Common.{◌≡◌, ℕ, Bool, true, false, not, ◌&&◌, ◌||◌, refl, ◌∙◌, List, [], ◌∷◌, map, cond, Option, Some, None, if◌then◌else◌}
-use Rattle.std.specs.List.{filter, list_any}
+use Rattle.std.proofs.Common.{◌≡◌, ℕ, Bool, true, false, not, ◌&&◌, ◌||◌, refl, ◌∙◌, List, [], ◌∷◌, Option, Some, None, if◌then◌else◌}
+use Rattle.std.specs.List.{list_any}
 use Rattle.std.proofs.lemmas.Bool.{and_parts, and_from}
 use Rattle.table_space.specs.declared.entry.Entry.{Entry}
 use Rattle.table_space.specs.declared.entry.Held.{Held}

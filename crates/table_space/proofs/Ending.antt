@@ -1,15 +1,14 @@
 -- The entries of all keys, while those under one number after another end.
-use Rattle.std.proofs.Common.{◌≡◌, ◌≢◌, ℕ, ◌+◌, ◌<◌, ◌≤◌, ◌%◌, Bool, true, false, refl, ap, sym, ◌∙◌, subst, List, [], length, Option, Some, None, arith, inl, inr, slice_index, ◌⊎◌}
-use Rattle.std.specs.List.{slice_get, list_any, filter}
+use Rattle.std.proofs.Common.{◌≡◌, ◌≢◌, ℕ, ◌+◌, ◌<◌, ◌≤◌, ◌%◌, false, refl, ap, sym, ◌∙◌, length, Option, Some, None, arith, inl, inr, slice_index, ◌⊎◌}
+use Rattle.std.specs.List.{list_any, filter}
 use Rattle.std.specs.Int.{bit_at}
 use Rattle.std.proofs.lemmas.Bool.{cases_lt, cases_eq, cases_Bool}
 use Rattle.ids_base.specs.declared.lock.Key.{Key}
-use Rattle.table_space.specs.declared.entry.Keyed.{Keyed}
 use Rattle.table_space.specs.declared.directory.Directory.{Directory}
 use Rattle.table_space.specs.Directory.{entries_at, EndsUnder}
 use Rattle.table_space.specs.Entries.{stays}
 use Rattle.table_space.specs.Indexed.{goes, IsIndexed}
-use Rattle.table_space.specs.Marks.{IsUnmarked, IsNext}
+use Rattle.table_space.specs.Marks.{IsUnmarked}
 use Rattle.table_space.specs.Numbers.{number_of, entries_in, entries_under}
 use Rattle.table_space.specs.Seen.{Ends}
 use Rattle.table_space.proofs.Indexing.{bits-apart, number-within, slot-there}

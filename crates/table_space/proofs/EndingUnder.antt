@@ -6,8 +6,8 @@ use Rattle.table_space.specs.declared.entry.Entry.{Entry}
 use Rattle.table_space.specs.declared.entry.Keyed.{Keyed}
 use Rattle.table_space.specs.Entries.{stays}
 use Rattle.table_space.specs.Numbers.{Numbers, number_of, entries_under, entries_in}
-use Rattle.table_space.specs.Indexed.{AreMarks, IsOf, IsIndexed}
-use Rattle.table_space.proofs.Indexing.{number-within, number-key, indexed-set, seen-same, seen-other}
+use Rattle.table_space.specs.Indexed.{AreMarks, IsIndexed}
+use Rattle.table_space.proofs.Indexing.{number-key, indexed-set, seen-same, seen-other}
 
 cases-list : (es : List Entry) → (es ≡ []) ⊎ (es ≢ [])
 cases-list [] = inl refl

@@ -1,5 +1,5 @@
 -- What stays known of the slots of pages where entries change.
-use Rattle.std.proofs.Common.{◌≡◌, ◌≢◌, ℕ, ◌-◌, ◌≤◌, ◌<◌, Bool, true, false, ◌&&◌, ◌||◌, refl, ap, sym, ◌∙◌, List, [], ◌∷◌, ◌++◌, length, max, cond, if◌then◌else◌, ◌⊎◌, inl, inr, arith}
+use Rattle.std.proofs.Common.{zero, suc, replicate, slice_index_or, ◌≡◌, ◌≢◌, ℕ, ◌-◌, ◌≤◌, ◌<◌, Bool, true, false, ◌&&◌, ◌||◌, refl, ap, sym, ◌∙◌, List, [], ◌∷◌, ◌++◌, length, max, cond, if◌then◌else◌, ◌⊎◌, inl, inr, arith}
 use Rattle.std.specs.List.{filter, list_any}
 use Rattle.std.proofs.lemmas.Bool.{cases_Bool, eqb-true, eq-eqb, ne_eqb, cases_eq, cases_lt, lt-leb, le-leb}
 use Rattle.std.proofs.lemmas.List.{get_or-set_same, get_or-set_other}
@@ -282,3 +282,22 @@ module _ {was now : Entries} {t : ℕ} {k : Key} (page slot number : ℕ) (is : 
 
   pub row-filled : (filled : Bool) → filled ≡ true → Changes was now t k (noted number filled tx (was t k)) → has_entry_for (row_number page slot) filled (was t k) ≡ true → IsFilled now (row_number page slot)
   row-filled filled on c some = rw (← is) (noted-filled number tx (rw on at c) (rw (on, ← is) at some))
+
+-- At the start no slot has an entry.
+pub fronts-new : {entries : Entries} (fs : List Front) (n : ℕ) (f : Front) → fs ≡ replicate n f → f.filled ≡ 0 → ((t : ℕ) (k : Key) → entries t k ≡ []) → AreFronts entries fs
+fronts-new {entries = entries} fs n f is none empty = λ page d low high.
+    let size : length fs ≡ n = ap length is ∙ length-all n in
+    let at : slice_index_or fs (page - 1) d ≡ f = ap (λ (xs : List Front). slice_index_or xs (page - 1) d) is ∙ at-all n (page - 1) d (omega arith) in
+    rw at (record {
+      filled = λ slot some last small. absurd (omega arith);
+      used = λ slot above small t k. rw (empty t k) refl;
+    })
+  where
+    length-all : (m : ℕ) → length (replicate m f) ≡ m
+    length-all zero = refl
+    length-all (suc m) = ap (λ k. suc k) (length-all m)
+
+    at-all : (m i : ℕ) (d : Front) → i < m → slice_index_or (replicate m f) i d ≡ f
+    at-all zero i d lt = absurd (omega arith)
+    at-all (suc m) zero d lt = refl
+    at-all (suc m) (suc i) d lt = at-all m i d (omega arith)

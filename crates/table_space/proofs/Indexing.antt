@@ -1,17 +1,17 @@
 -- What a directory keeps where the entries under one number change.
-use Rattle.std.proofs.Common.{◌≡◌, ◌≢◌, ℕ, zero, suc, ◌+◌, ◌<◌, ◌≤◌, ◌%◌, Bool, true, false, ◌||◌, refl, ap, sym, ◌∙◌, subst, List, [], ◌∷◌, ◌++◌, length, set, Option, Some, None, arith, inl, inr, slice_index, get_or-set_same, get_or-set_other, length-append, cond, ◌↔◌}
+use Rattle.std.proofs.Common.{◌≡◌, ◌≢◌, ℕ, zero, suc, ◌<◌, ◌≤◌, Bool, true, false, ◌||◌, refl, ap, sym, ◌∙◌, subst, List, [], ◌∷◌, ◌++◌, length, set, Option, Some, None, arith, inl, inr, slice_index, get_or-set_same, get_or-set_other, length-append}
 use Rattle.std.proofs.Common.{Result, Ok, Err, OnErr}
 use Rattle.std.proofs.Math.ListN.{length-set}
 use Rattle.std.specs.List.{slice_get, list_any}
 use Rattle.std.specs.Int.{bit_at}
-use Rattle.std.proofs.lemmas.Option.{slice_get_within, slice_get_past}
+use Rattle.std.proofs.lemmas.Option.{slice_get_within}
 use Rattle.std.proofs.lemmas.Bool.{cases_lt, cases_eq}
 use Rattle.ids_base.specs.declared.lock.Key.{Key}
 use Rattle.table_space.specs.declared.entry.Entry.{Entry}
 use Rattle.table_space.specs.declared.entry.Keyed.{Keyed}
 use Rattle.table_space.specs.Numbers.{Numbers, number_of, entries_in, entries_under}
-use Rattle.table_space.specs.Indexed.{goes, AreMarks, IsOf, HasKey, IsIndexed}
-use Rattle.table_space.specs.Seen.{IsOther, Changes, IsSame}
+use Rattle.table_space.specs.Indexed.{AreMarks, IsOf, IsIndexed}
+use Rattle.table_space.specs.Seen.{Changes, IsSame}
 use Rattle.std.proofs.lemmas.List.{set-get_or}
 use Rattle.table_space.proofs.Naming.{Puts, puts-other, named-others, named-kept, named-own}
 

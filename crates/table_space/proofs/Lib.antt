@@ -9,3 +9,4 @@ pub mod Named
 pub mod Fronts
 pub mod Alone
 pub mod MarkTrees
+pub mod Rooms

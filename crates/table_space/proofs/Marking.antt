@@ -1,10 +1,10 @@
 -- The marks of the entries of a key.
-use Rattle.std.proofs.Common.{◌≡◌, ◌≢◌, ℕ, ◌+◌, ◌<◌, ◌%◌, ◌==◌, Bool, true, false, not, ◌||◌, refl, ap, sym, ◌∙◌, List, [], ◌∷◌, length, take, get_or, arith}
+use Rattle.std.proofs.Common.{◌≡◌, ℕ, ◌+◌, ◌<◌, ◌%◌, ◌==◌, Bool, true, false, not, ◌||◌, refl, ap, sym, ◌∙◌, List, [], ◌∷◌, length, take, get_or}
 use Rattle.std.specs.List.{list_any, filter}
 use Rattle.std.specs.Int.{bit_at}
 use Rattle.std.proofs.lemmas.List.Folds.{list_any_more}
-use Rattle.std.proofs.lemmas.Bool.{cases_Bool, eqb-true}
-use Rattle.std.proofs.Common.{inl, inr, cond}
+use Rattle.std.proofs.lemmas.Bool.{eqb-true}
+use Rattle.std.proofs.Common.{cond}
 use Rattle.table_space.specs.declared.entry.Entry.{Entry}
 use Rattle.table_space.specs.Entries.{stays, is_filled}
 use Rattle.table_space.specs.Indexed.{goes}

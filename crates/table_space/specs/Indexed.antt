@@ -1,12 +1,12 @@
 -- What a directory keeps: each key with entries has a number, and the marks of a number tell of its entries.
-use Rattle.std.specs.Prelude.{◌≡◌, ◌≢◌, ℕ, ◌≤◌, ◌<◌, ◌%◌, Bool, true, not, List, [], Option, Some, None, length, slice_index}
+use Rattle.std.specs.Prelude.{◌≡◌, ◌≢◌, ℕ, ◌≤◌, ◌<◌, ◌%◌, Bool, true, not, List, [], Some, length, slice_index}
 use Rattle.std.specs.List.{list_any, slice_get}
 use Rattle.std.specs.Int.{bit_at}
 use Rattle.ids_base.specs.declared.lock.Key.{Key}
 use Rattle.table_space.specs.declared.entry.Entry.{Entry}
 use Rattle.table_space.specs.declared.entry.Keyed.{Keyed}
 use Rattle.table_space.specs.Entries.{stays}
-use Rattle.table_space.specs.Numbers.{Numbers, number_of, entries_in}
+use Rattle.table_space.specs.Numbers.{Numbers, number_of}
 
 -- the entry goes at the end of a transaction
 abbrev pub goes : ℕ → Entry → Bool

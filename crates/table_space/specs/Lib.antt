@@ -10,5 +10,6 @@ pub mod Noted
 pub mod Numbers
 pub mod Owners
 pub mod Places
+pub mod Rooms
 pub mod Seen
 pub mod Space

@@ -1,14 +1,18 @@
 //! The directory and the owners of pages, with what is known of the slots of each page.
-ghost use Rattle.std.specs.Prelude.{◌≡◌, ◌≤◌, ◌<◌, ◌+◌, ◌-◌, ◌^◌, ◌∷◌, ◌++◌, [], ◌↔◌, ℕ, None, Some, true, IsTrue, IfOk, OnOk, OnErr, MatchOption, length, replicate, slice_set};
+ghost use Rattle.std.specs.Prelude.{◌≡◌, ◌≤◌, ◌<◌, ◌+◌, ◌-◌, ◌%◌, ◌^◌, ◌∷◌, ◌++◌, [], ◌↔◌, ℕ, None, Some, true, IsTrue, IfOk, OnOk, OnErr, MatchOption, length, replicate, slice_set};
+ghost use Rattle.std.specs.Prelude.{◌≢◌, slice_index};
+ghost use Rattle.std.specs.Int.{bit_at};
 ghost use Rattle.ids_base.specs.RowIds.{row_number};
 ghost use Rattle.ids_base.specs.declared.lock.Key.{Key as TheKey};
 ghost use Rattle.table_space.specs.Directory.{entries_at};
 ghost use Rattle.table_space.specs.Noted.{made, noted, has_entry_for};
 ghost use Rattle.table_space.specs.Seen.{Changes, IsSame, Ends, AreBlocked, IsBlocked, IsFirstVacant};
 ghost use Rattle.table_space.specs.Fronts.{IsFront};
+ghost use Rattle.table_space.specs.Rooms.{AreFull, IsNextPage};
 
 use crate::directory::Directory;
 use crate::front::Front;
+use crate::marks::Marks;
 use crate::owners::Owners;
 use ids_base::lock::Key;
 use ids_base::memory::Memory;
@@ -23,6 +27,8 @@ pub struct Ledger {
     directory: Directory,
     owners: Owners,
     fronts: Vec<Front>,
+    room: Marks,
+    narrow: Vec<u8>,
 }
 
 impl Model for Ledger {
@@ -38,11 +44,12 @@ impl Model for Ledger {
 
     ghost use Rattle.std.specs.Prelude.{◌≡◌, length};
     ghost use Rattle.table_space.specs.Fronts.{AreFronts};
+    ghost use Rattle.table_space.specs.Rooms.{AreRooms};
     ghost use Rattle.table_space.specs.Directory.{entries_at};
 
     ghost view = { λ a. record { directory = a.directory; owners = a.owners } };
 
-    ghost invariant = { λ a. (length a.fronts.items ≡ length a.owners) × AreFronts (entries_at a.directory) a.fronts.items };
+    ghost invariant = { λ a. (length a.fronts.items ≡ length a.owners) × AreFronts (entries_at a.directory) a.fronts.items × AreRooms (entries_at a.directory) a.owners a.room a.narrow.items };
 }
 
 impl Ledger {
@@ -57,6 +64,8 @@ impl Ledger {
             directory: Directory::new(alloc)?,
             owners: Owners::new(alloc, pages)?,
             fronts: vec![in alloc; front; pages as usize]?,
+            room: Marks::new(alloc, pages as usize)?,
+            narrow: vec![in alloc; 255; 63]?,
         })
     }
 
@@ -94,7 +103,15 @@ impl Ledger {
 
     /// Fills or empties an entry, as in the directory, and gives its page to the table. Where a slot is filled, those after it are looked
     /// at, as far as they are filled and were used before.
-    pub(crate) fn note(&mut self, table: TableNo, key: &Key, row: RowId, filled: bool, tx: TxNo)
+    pub(crate) fn note(
+        &mut self,
+        table: TableNo,
+        key: &Key,
+        row: RowId,
+        filled: bool,
+        tx: TxNo,
+        slots: u8,
+    )
         requires found { has_entry_for (row_number row.page row.slot) filled (entries_at self.old.directory table key.now) ≡ true }
         requires first { 1 ≤ row.page }
         requires last { row.page ≤ length self.old.owners }
@@ -111,6 +128,34 @@ impl Ledger {
             front.lowered(row.slot)
         };
         self.fronts[row.page as usize - 1] = Front { filled: last, used };
+        let class = class_of(table);
+        mark_page(
+            &mut self.room,
+            &mut self.narrow,
+            row.page,
+            class,
+            slots,
+            last,
+        );
+    }
+
+    /// The next page from one on that may be the table's and have a vacant slot, where its pages have so many slots. Logarithmic in the pages.
+    pub(crate) fn next_page(&self, table: TableNo, slots: u8, from: u32) -> Option<u32>
+        requires { 1 ≤ from }
+        ensures { MatchOption result (AreFull (entries_at self.now.directory) self.now.owners table slots from (length self.now.owners + 1)) (IsNextPage (entries_at self.now.directory) self.now.owners table slots from) }
+    {
+        let class = class_of(table);
+        if slots > self.narrow[class as usize] {
+            return if from <= self.owners.pages() {
+                Some(from)
+            } else {
+                None
+            };
+        }
+        match self.room.next(from as usize - 1, class) {
+            Some(place) => Some(place as u32 + 1),
+            None => None,
+        }
     }
 
     // What is known of the slots of a page.
@@ -147,4 +192,31 @@ impl Ledger {
         }
         None
     }
+}
+
+// Marks a page where its first slots, up to one, are not all that its table's pages have; else notes how many there are.
+fn mark_page(room: &mut Marks, narrow: &mut Vec<u8>, page: u32, class: u32, slots: u8, last: u8)
+    requires first { 1 ≤ page }
+    requires last { page ≤ length room.old }
+    requires class { class < 63 }
+    requires classes { length narrow.old.items ≡ 63 }
+    ensures here { bit_at (slice_index room.new (page - 1)) class ≡ 0 → slice_index narrow.new.items class ≤ last }
+    ensures others { (n : ℕ) → n ≢ page - 1 → slice_index room.new n ≡ slice_index room.old n }
+    ensures less { (m : ℕ) → slice_index narrow.new.items m ≤ slice_index narrow.old.items m }
+    ensures size { length room.new ≡ length room.old }
+    ensures kept { length narrow.new.items ≡ 63 }
+{
+    if slots == 0 || last < slots {
+        room.set(page as usize - 1, 1 << class);
+        return;
+    }
+    room.set(page as usize - 1, 0);
+    narrow[class as usize] = slots.min(narrow[class as usize]);
+}
+
+// The mark of a table's pages.
+fn class_of(table: TableNo) -> u32
+    ensures { result ≡ table % 63 }
+{
+    table % 63
 }

@@ -34,8 +34,9 @@ impl TableSpace {
 
     /// The place for a new row of a table: the least row id among the slots of the table's pages that no entry fills or reserves for
     /// another transaction; where there is none, slot 1 of the least page without an owner. Answers `NoSpace` exactly where neither is
-    /// there. Linear in the pages up to the place, and in the entries for each slot of them that was used before and stands behind one that is
-    /// not filled: a page that was filled from its first slot on takes constant time.
+    /// there. Logarithmic in the pages for each page of the table that is not known to be full, up to the place, and linear in the entries for
+    /// each slot of them that was used before and stands behind one that is not filled; `NoSpace` is linear in the pages. Tables whose numbers
+    /// are the same modulo 63 pass over each other's pages.
     pub fn place_for(&self, table: TableNo, tx: TxNo) -> Result<RowId, NoSpace>
         requires some { 1 ≤ length_of self.now table }
         requires few { length_of self.now table ≤ 800 }
@@ -65,6 +66,15 @@ impl TableSpace {
         }
     }
 
+    /// How many slots a page of the table has, as far as that is known; else 0. Linear in the columns.
+    pub(crate) fn slots_known(&self, table: TableNo) -> u8 {
+        if self.has_rows(table) {
+            slots_per_page(self.length_of(table))
+        } else {
+            0
+        }
+    }
+
     // The slots and the pages that a table owns.
     fn no_space(&self, table: TableNo, slots: u8) -> NoSpace
         ensures pages { result.pages ≡ count_by (is_own table) (owners_of self.now) }
@@ -78,15 +88,19 @@ impl TableSpace {
     }
 
     // The least row id among the vacant slots of the table's pages.
+    #[tactic(auto, using(crate::proofs::Rooms::full_blocked))]
     fn vacant_place(&self, table: TableNo, slots: u8, tx: TxNo) -> Option<RowId>
         ensures { MatchOption result (HasNoVacant self.now table slots tx) (λ place. IsLeastVacant self.now table slots tx place.page place.slot) }
     {
-        for page in 1..self.pages() + 1 {
+        let _pages = self.pages();
+        let mut from = 1;
+        while let Some(page) = self.ledger.next_page(table, slots, from) {
             if self.ledger.owners().get(page) == Some(table) {
                 if let Some(slot) = self.ledger.vacant_slot(page, slots, tx) {
                     return Some(RowId { page, slot });
                 }
             }
+            from = page + 1;
         }
         None
     }

@@ -180,7 +180,8 @@ impl TableSpace {
         ensures owned { owners_of self.new ≡ slice_set (owners_of self.old) (row.page - 1) (Some table) }
         ensures tables { IsSameTables self.old self.new }
     {
-        self.ledger.note(table, key, row, filled, tx);
+        let slots = self.slots_known(table);
+        self.ledger.note(table, key, row, filled, tx, slots);
     }
 
     /// Drops the empty entries of a transaction, and no others. Logarithmic in the keys for each key with an empty entry of a transaction whose

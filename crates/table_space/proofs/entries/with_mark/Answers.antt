@@ -1,5 +1,5 @@
-use Rattle.std.proofs.Common.{◌≢◌, ◌<◌, ap, sym, ◌∙◌, arith, inl, inr}
-use Rattle.std.specs.Int.{w64, bit_at}
+use Rattle.std.proofs.Common.{◌≢◌, ◌<◌, ◌∙◌, arith, inl, inr}
+use Rattle.std.specs.Int.{w64}
 use Rattle.std.proofs.lemmas.Bool.{cases_eq}
 use Rattle.std.proofs.lemmas.Nat.Bits.{bit_at_set_same, bit_at_set_other}
 use Rattle.table_space.proofs.entries.with_mark.Goals as goal

@@ -1,4 +1,4 @@
-use Rattle.std.proofs.Common.{◌+◌, ◌*◌, ◌/◌, arith}
+use Rattle.std.proofs.Common.{◌/◌, arith}
 use Rattle.table_space.proofs.MarkTrees.{power-half, below-none, mark-not, next-left, next-right, next-none, left-fits, right-fits}
 use Rattle.table_space.proofs.marks.+next_below.Goals as goal
 

@@ -1,5 +1,4 @@
-use Rattle.std.proofs.Common.{◌≤◌, arith}
-use Rattle.table_space.specs.Marks.{IsUnmarked}
+use Rattle.std.proofs.Common.{arith}
 use Rattle.table_space.proofs.Ending.{passed, ended-more, ended-all, ending-none}
 use Rattle.table_space.proofs.directory.Directory.end.Goals as goal
 

@@ -1,4 +1,4 @@
-use Rattle.std.proofs.Common.{◌≡◌, ◌≢◌, ◌<◌, ◌++◌, ◌∷◌, [], List, length, ap, sym, ◌∙◌, refl, Some}
+use Rattle.std.proofs.Common.{◌≡◌, ◌≢◌, ◌++◌, ◌∷◌, [], List, ap, sym, ◌∙◌}
 use Rattle.table_space.specs.declared.entry.Keyed.{Keyed}
 use Rattle.table_space.specs.declared.entry.Entry.{Entry}
 use Rattle.table_space.specs.Noted.{made}

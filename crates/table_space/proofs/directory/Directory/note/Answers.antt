@@ -1,10 +1,9 @@
-use Rattle.std.proofs.Common.{◌≡◌, ◌≢◌, ◌<◌, [], List, length, ap, sym, ◌∙◌, refl, Some, arith}
+use Rattle.std.proofs.Common.{◌≡◌, ◌≢◌, ◌<◌, [], length, ap, sym, ◌∙◌, refl, Some, arith}
 use Rattle.std.specs.Vec.{with_items}
 use Rattle.std.specs.List.{slice_get}
 use Rattle.std.proofs.lemmas.List.{with_items_is}
 use Rattle.std.proofs.lemmas.Option.{slice_get_read}
 use Rattle.table_space.specs.declared.entry.Keyed.{Keyed}
-use Rattle.table_space.specs.declared.entry.Entry.{Entry}
 use Rattle.table_space.specs.Numbers.{number_of, entries_in, entries_under}
 use Rattle.table_space.specs.Noted.{noted}
 use Rattle.table_space.proofs.Indexing.{number-within, number-key, indexed-relist, changes-set}

@@ -6,6 +6,7 @@ use Rattle.table_space.specs.Noted.{has_entry_for}
 use Rattle.table_space.specs.Fronts.{IsFront, AreFilled}
 use Rattle.ids_base.specs.RowIds.{row_number}
 use Rattle.table_space.proofs.Fronts.{page-noted, page-lowered, page-kept, fronts-noted, row-stays, row-filled}
+use Rattle.table_space.proofs.Rooms.{rooms-noted}
 use Rattle.table_space.proofs.ledger.Ledger.note.Goals as goal
 use Rattle.table_space.proofs.ledger.Ledger.note.Goals.{then-filled, else-filled}
 
@@ -44,4 +45,8 @@ invariant_of-self c =
           (page-noted c.args.row.page c.args.row.slot c.front_of-front.result _ (omega arith)
           (row-stays c.args.row.page c.args.row.slot c.number.result c.number.ensures c.args.tx c.args.filled c.note.ensures)
           known last c.max-used.ensures),
+      rw c.set.ensures (rooms-noted c.self.inside.owners c.self.inside.room c.self.inside.narrow.items c.mark_page.new.room c.mark_page.new.narrow.items c.args.row.page c.args.row.slot c.args.table c.if-filled.last c.requires.first (omega (arith, same, c.requires.last)) (omega arith)
+          (row-stays c.args.row.page c.args.row.slot c.number.result c.number.ensures c.args.tx c.args.filled c.note.ensures)
+          c.self.invariant.2 last
+          (rw c.class_of-class.ensures at c.mark_page.ensures.here) c.mark_page.ensures.others c.mark_page.ensures.less c.mark_page.ensures.size (c.mark_page.ensures.kept ∙ sym c.self.invariant.2.classes)),
     )
