@@ -1,5 +1,5 @@
 -- A run that was refused before the disk was opened: it gives nothing and commits nothing, and the disk is as it was.
-use Rattle.std.proofs.Common.{◌≡◌, refl, sym, ap, subst, inl, inr, ℕ, ◌<◌, ◌≤◌, Bool, true, false, List, [], arith}
+use Rattle.std.proofs.Common.{◌≡◌, refl, sym, ap, subst, inl, inr, ℕ, ◌<◌, ◌≤◌, false, List, [], arith}
 use Rattle.std.specs.FinMap.{empty}
 use Rattle.ids_base.specs.declared.status.Status.{Status}
 use Rattle.ids_base.specs.declared.status.Status.TheVariants.{Done}
@@ -7,7 +7,6 @@ use Rattle.ids_outside.specs.Counts.{last_count}
 use Rattle.ids_outside.specs.Images.{Image}
 use Rattle.ids_model.specs.declared.journal.Committed.{Committed}
 use Rattle.ids_model.specs.declared.journal.Given.{Given}
-use Rattle.ids_model.specs.Tables.{Tables}
 use Rattle.ids_model.specs.Served.{ServedAtStart}
 use Rattle.fast_recovery.specs.Images.{Recovers}
 use Rattle.fast_recovery.specs.Opening.{IsCounted}

@@ -1,20 +1,17 @@
-use Rattle.std.proofs.Common.{◌≡◌, ◌∙◌, ◌<◌, ◌≤◌, refl, sym, ap, subst, ℕ, List, length, arith, Err}
+use Rattle.std.proofs.Common.{◌∙◌, ◌<◌, sym, ap, subst, arith, Err}
 use Rattle.std.specs.Prelude.{Vec}
 use Rattle.std.specs.declared.alloc.Global.{Global}
-use Rattle.ids_base.specs.declared.plan.Plan.{Plan}
 use Rattle.ids_model.specs.declared.journal.Committed.{Committed}
 use Rattle.ids_model.specs.declared.journal.Given.{Given}
-use Rattle.ids_model.specs.Matches.{Script}
 use Rattle.ids_model.specs.Text.{text}
 use Rattle.sql_reader.specs.Lines.{text_in}
-use Rattle.sql_reader.specs.Plans.{Each, IsPlanOf}
+use Rattle.sql_reader.specs.Plans.{IsPlanOf}
 use Rattle.ids_engine.specs.Journals.{done_of}
-use Rattle.ids_server.specs.Printing.{PrinterPuts}
 use Rattle.ids_server.specs.Running.{effects_of}
 use Rattle.ids_server.specs.Runners.{running_of}
-use Rattle.ids_server.proofs.Carrying.{puts-nothing, puts-then, puts-same}
+use Rattle.ids_server.proofs.Carrying.{puts-then, puts-same}
 use Rattle.ids_server.proofs.Texts.{text-push}
-use Rattle.ids_server.proofs.Runs.{OnePlan, plans_each, next_there, count_more, all_answered, has_run, run_ends, ends_by}
+use Rattle.ids_server.proofs.Runs.{plans_each, next_there, count_more, all_answered, has_run, run_ends, ends_by}
 use Rattle.ids_server.proofs.session.run_all.Goals as goal
 
 pub loop-index-preserved : goal.loop-index-preserved

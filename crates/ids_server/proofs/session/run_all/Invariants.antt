@@ -1,10 +1,10 @@
 use Rattle.std.proofs.Common.{◌≡◌, ◌≤◌, ℕ, List, length}
 use Rattle.ids_outside.specs.Images.{Image}
 use Rattle.ids_model.specs.Tables.{Tables}
-use Rattle.ids_model.specs.Matches.{Script, plans_of}
+use Rattle.ids_model.specs.Matches.{Script}
 use Rattle.ids_model.specs.Text.{text}
-use Rattle.sql_reader.specs.Lines.{texts_of, statements_in}
-use Rattle.sql_reader.specs.Plans.{Each, IsPlanOf, IsScriptOf}
+use Rattle.sql_reader.specs.Lines.{texts_of}
+use Rattle.sql_reader.specs.Plans.{IsScriptOf}
 use Rattle.ids_server.specs.Printing.{PrinterPuts}
 use Rattle.ids_server.specs.Running.{IsRunning}
 use Rattle.ids_server.specs.Runners.{running_of, KeepsRun, HasStore}

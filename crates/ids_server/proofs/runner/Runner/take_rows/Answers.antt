@@ -3,9 +3,8 @@ use Rattle.std.proofs.lemmas.List.{append-nil}
 use Rattle.std.proofs.Math.ListN.{drop_of_length-le}
 use Rattle.std.specs.List.{AllByRecursion}
 use Rattle.ids_model.specs.declared.effect.Effect.{Effect}
-use Rattle.ids_model.specs.Tables.{Tables, apply, apply_all}
+use Rattle.ids_model.specs.Tables.{Tables, apply_all}
 use Rattle.ids_model.specs.Fits.{Fits}
-use Rattle.ids_engine.specs.Survival.{Done}
 use Rattle.ids_engine.specs.Stores.{KeepsStore}
 use Rattle.ids_engine.specs.declared.store.StoreFault.TheVariants as faults
 use Rattle.ids_engine.proofs.OutOfBlocks.{same_fault}
