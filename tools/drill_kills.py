@@ -7,7 +7,7 @@ whose reply was read is there, each transaction is there whole or not at all, an
 A kill leaves what the process gave to the system; a loss of power is what the memory disk's tests try.
 
 Needs the built program crates/ids/out/ids. Usage: tools/drill_kills.py [ROUNDS [SEED]]"""
-import os, random, re, shutil, subprocess, sys, tempfile
+import os, random, re, shutil, subprocess, sys, tempfile, time
 
 program = os.path.join(os.path.dirname(os.path.abspath(__file__)), "..", "crates", "ids", "out", "ids")
 rounds = int(sys.argv[1]) if len(sys.argv) > 1 else 300
@@ -65,6 +65,7 @@ def judge(text, commits, there):
 
 
 wrong = early = late = 0
+shortest = 0.25  # seconds: of the runs that were not killed, so that most are
 counts = []
 for n in range(rounds):
     folder = tempfile.mkdtemp(prefix="ids-drill-")
@@ -75,9 +76,11 @@ for n in range(rounds):
             source.write("\n".join(lines))
             source.seek(0)
             process = subprocess.Popen([program, "run"], stdin=source, stdout=subprocess.PIPE, cwd=folder)
+            started = time.monotonic()
             try:
-                text, _ = process.communicate(timeout=draw.uniform(0.0, 0.25))
+                text, _ = process.communicate(timeout=draw.uniform(0.0, shortest))
                 late += 1
+                shortest = min(shortest, time.monotonic() - started)
             except subprocess.TimeoutExpired:
                 process.kill()
                 text, _ = process.communicate()
