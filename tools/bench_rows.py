@@ -2,7 +2,7 @@
 """What a statement costs as a table grows: rows are put, a tenth of them goes, and a tenth is looked up by key, over real files.
 
 The disk is formatted here and not by `ids init`, whose log would be too short: 64 log files of 1024 blocks. Each part is a run of its own,
-in transactions of 100 statements; from its time that of a run over the same disk with an empty script, which opens it and ends, is taken away.
+in transactions of 100 statements; from its time that of a run over the same disk with an empty script, which opens it and ends, is taken away (the shortest of three).
 Needs the built program crates/ids/out/ids.
 Usage: tools/bench_rows.py [ROWS [FOLDER]]   (10^3, 10^4, .. up to ROWS, 100000 by default; a folder on the file system that is to be used)"""
 import os, random, shutil, struct, subprocess, sys, tempfile, time
@@ -60,7 +60,7 @@ def measure(rows):
         }
         costs = []
         for name, statements in parts.items():
-            opening = run(folder, [])
+            opening = min(run(folder, []) for _ in range(3))
             costs.append(f"{name} {(run(folder, statements) - opening) / len(statements) * 1e6:.1f}")
         print(f"{rows} rows: microseconds a statement: {', '.join(costs)}; opening at the end {run(folder, []) * 1e3:.1f} ms", flush=True)
     finally:
