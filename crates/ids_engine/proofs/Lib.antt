@@ -15,3 +15,12 @@ pub mod RollingBack
 pub mod Opened
 pub mod FirstsCovered
 pub mod JournalsGrow
+pub mod RowKeys
+pub mod EntryLists
+pub mod Directories
+pub mod Keyed
+pub mod IndexParts
+pub mod IndexLaws
+pub mod FreeSlots
+pub mod IndexedRows
+pub mod IndexedTables

@@ -6,3 +6,5 @@ pub mod Survival
 pub mod Stores
 pub mod Openings
 pub mod Journals
+pub mod RowKeys
+pub mod Indexed
