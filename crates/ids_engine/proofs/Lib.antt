@@ -15,3 +15,11 @@ pub mod RollingBack
 pub mod Opened
 pub mod FirstsCovered
 pub mod JournalsGrow
+pub mod PageLookups
+pub mod PageReads
+pub mod PageWrites
+pub mod PagePlaces
+pub mod PageFilled
+pub mod PagesMade
+pub mod PagesPaged
+pub mod PagedRows
