@@ -11,3 +11,4 @@ pub mod RowsRead
 pub mod LogRead
 pub mod Faults
 pub mod Opening
+pub mod Paged

@@ -24,3 +24,11 @@ pub mod IndexLaws
 pub mod FreeSlots
 pub mod IndexedRows
 pub mod IndexedTables
+pub mod PageLookups
+pub mod PageReads
+pub mod PageWrites
+pub mod PagePlaces
+pub mod PageFilled
+pub mod PagesMade
+pub mod PagesPaged
+pub mod PagedRows

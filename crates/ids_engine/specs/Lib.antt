@@ -1,5 +1,7 @@
 pub mod Blank
 pub mod Plans
+pub mod PageParts
+pub mod Paging
 pub mod Placing
 pub mod Kept
 pub mod Survival
