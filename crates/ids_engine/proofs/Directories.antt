@@ -141,31 +141,31 @@ module _ (kinds : ℕ → Kind) (own : Own) (slots : Slots) (was now : Entries) 
     filled : (t : ℕ) (k : Key) (slot : ℕ) → row_of (now t k) ≡ Some slot → IsRowOfKey kinds own after t k slot
     filled t k slot is = elim (these_or_others owner.0 key t k) [
       | inl p ↦
-        let same : row ≡ slot = some_same row slot (sym (there t k p.0 p.1) ∙ is) in
-        row-same kinds own after owner.0 t key k row slot (sym p.0) (sym p.1) same (holds-row kinds own after row owner bytes held)
+          let same : row ≡ slot = some_same row slot (sym (there t k p.0 p.1) ∙ is) in
+          row-same kinds own after owner.0 t key k row slot (sym p.0) (sym p.1) same (holds-row kinds own after row owner bytes held)
       | inr other ↦
-        let r = d.filled t k slot (sym (ap row_of (c.beside t k other)) ∙ is) in
-        row-beside kinds own slots row (Some bytes) t k slot (λ here. none_some r.bytes (sym vacant ∙ sym (ap (slot_at slots) here) ∙ r.holds.stored)) r
+          let r = d.filled t k slot (sym (ap row_of (c.beside t k other)) ∙ is) in
+          row-beside kinds own slots row (Some bytes) t k slot (λ here. none_some r.bytes (sym vacant ∙ sym (ap (slot_at slots) here) ∙ r.holds.stored)) r
     ]
 
     entered : (t : ℕ) (k : Key) (slot : ℕ) → IsRowOfKey kinds own after t k slot → row_of (now t k) ≡ Some slot
     entered t k slot r = elim (same_or_not slot row) [
       | inl here ↦
-        let is = row-is kinds own after row owner bytes held t k (row-same kinds own after t t k k slot row refl refl here r) in
-        there t k is.0 is.1 ∙ ap Some (sym here)
+          let is = row-is kinds own after row owner bytes held t k (row-same kinds own after t t k k slot row refl refl here r) in
+          there t k is.0 is.1 ∙ ap Some (sym here)
       | inr beside ↦
-        let old = d.entered t k slot (row-before kinds own slots row (Some bytes) t k slot beside r) in
-        elim (these_or_others owner.0 key t k) [
-          | inl p ↦ absurd (none_some slot (sym (none_there t k p.0 p.1) ∙ old))
-          | inr other ↦ ap row_of (c.beside t k other) ∙ old
-        ]
+          let old = d.entered t k slot (row-before kinds own slots row (Some bytes) t k slot beside r) in
+          elim (these_or_others owner.0 key t k) [
+            | inl p ↦ absurd (none_some slot (sym (none_there t k p.0 p.1) ∙ old))
+            | inr other ↦ ap row_of (c.beside t k other) ∙ old
+          ]
     ]
 
     single : (t : ℕ) (k : Key) (slot : ℕ) → row_of (now t k) ≡ Some slot → is_alone slot (now t k) ≡ true
     single t k slot is = elim (these_or_others owner.0 key t k) [
       | inl p ↦
-        let same : row ≡ slot = some_same row slot (sym (there t k p.0 p.1) ∙ is) in
-        ap (is_alone slot) (now-here was now owner.0 key _ c t k p.0 p.1) ∙ ap (λ (x : ℕ). is_alone x (noted row true tx (was owner.0 key))) (sym same) ∙ noted-alone row tx true (was owner.0 key) entry alone-before
+          let same : row ≡ slot = some_same row slot (sym (there t k p.0 p.1) ∙ is) in
+          ap (is_alone slot) (now-here was now owner.0 key _ c t k p.0 p.1) ∙ ap (λ (x : ℕ). is_alone x (noted row true tx (was owner.0 key))) (sym same) ∙ noted-alone row tx true (was owner.0 key) entry alone-before
       | inr other ↦ ap (is_alone slot) (c.beside t k other) ∙ d.single t k slot (sym (ap row_of (c.beside t k other)) ∙ is)
     ]
 
@@ -195,19 +195,19 @@ module _ (kinds : ℕ → Kind) (own : Own) (slots : Slots) (was now : Entries) 
     filled-left t k slot is = elim (these_or_others owner.0 gone-key t k) [
       | inl p ↦ absurd (none_some slot (sym (none-now t k p.0 p.1) ∙ is))
       | inr other ↦
-        let r = d.filled t k slot (sym (ap row_of (c.beside t k other)) ∙ is) in
-        row-beside kinds own slots row None t k slot (λ here. other (row-is kinds own slots row owner bytes holds t k (row-same kinds own slots t t k k slot row refl refl here r))) r
+          let r = d.filled t k slot (sym (ap row_of (c.beside t k other)) ∙ is) in
+          row-beside kinds own slots row None t k slot (λ here. other (row-is kinds own slots row owner bytes holds t k (row-same kinds own slots t t k k slot row refl refl here r))) r
     ]
 
     entered-left : (t : ℕ) (k : Key) (slot : ℕ) → IsRowOfKey kinds own left t k slot → row_of (now t k) ≡ Some slot
     entered-left t k slot r = elim (same_or_not slot row) [
       | inl here ↦ absurd (none_some r.bytes (sym (slot_here slots row None) ∙ ap (slot_at left) (sym here) ∙ r.holds.stored))
       | inr beside ↦
-        let old = d.entered t k slot (row-before kinds own slots row None t k slot beside r) in
-        elim (these_or_others owner.0 gone-key t k) [
-          | inl p ↦ absurd (beside (some_same slot row (sym old ∙ ap row_of (was-here was owner.0 gone-key t k p.0 p.1) ∙ was-there)))
-          | inr other ↦ ap row_of (c.beside t k other) ∙ old
-        ]
+          let old = d.entered t k slot (row-before kinds own slots row None t k slot beside r) in
+          elim (these_or_others owner.0 gone-key t k) [
+            | inl p ↦ absurd (beside (some_same slot row (sym old ∙ ap row_of (was-here was owner.0 gone-key t k p.0 p.1) ∙ was-there)))
+            | inr other ↦ ap row_of (c.beside t k other) ∙ old
+          ]
     ]
 
     single-left : (t : ℕ) (k : Key) (slot : ℕ) → row_of (now t k) ≡ Some slot → is_alone slot (now t k) ≡ true

@@ -18,8 +18,8 @@ use Rattle.table_space.specs.declared.space.TableSpace.{TableSpace}
 use Rattle.table_space.specs.Entries.{has_row}
 use Rattle.table_space.specs.Noted.{made, noted}
 use Rattle.table_space.specs.Seen.{Entries, Changes, Ends}
-use Rattle.table_space.specs.Space.{entries_of, owner_of, pages_of, table_at, length_of, length_in, IsSameTables}
-use Rattle.ids_engine.specs.Indexed.{kind_in, key_kind, table_of, is_known, is_emptied_by, IsDirectoryOf, StayKeyed, AreReserved, Agrees}
+use Rattle.table_space.specs.Space.{entries_of, owners_of, owner_of, pages_of, table_at, length_of, length_in, IsSameTables}
+use Rattle.ids_engine.specs.Indexed.{kind_in, key_kind, table_of, is_known, is_emptied_by, IsDirectoryOf, StayKeyed, AreReserved, Agrees, Moves}
 use Rattle.ids_engine.proofs.EntryLists.{any-made, noted-keeps, noted-emptied, emptied-ends}
 use Rattle.ids_engine.proofs.Directories.{these_or_others, now-here, was-here}
 use Rattle.ids_engine.proofs.Keyed.{KeepsRows}
@@ -60,10 +60,9 @@ pub agree : (own : Own) (slots : Slots) (cs : List SlotChange) (s s' : TableSpac
     → ((number : ℕ) (name : Name) (shape : Shape) → IsCatalogued own slots number name shape → table_at s number ≡ Some (record { name = name; shape = shape }))
     → IsDirectoryOf (key_kind s) own slots (entries_of s') → StayKeyed (key_kind s) own slots (entries_of s') cs → Agrees own slots cs s'
 agree own slots cs s s' same owners lengths known directory keyed = record {
-  owners = owners;
+  directs = record { owners = owners; directory = subst (λ (x : ℕ → Kind). IsDirectoryOf x own slots (entries_of s')) (sym (kinds-same s s' same)) directory };
   lengths = λ page owner at is. lengths page owner at (sym (known-same s s' owner.0 (same owner.0)) ∙ is) ∙ sym (length-same s s' owner.0 (same owner.0));
   known = λ number name shape c. same number ∙ known number name shape c;
-  directory = subst (λ (x : ℕ → Kind). IsDirectoryOf x own slots (entries_of s')) (sym (kinds-same s s' same)) directory;
   keyed = subst (λ (x : ℕ → Kind). StayKeyed x own slots (entries_of s') cs) (sym (kinds-same s s' same)) keyed;
 }
 
@@ -107,12 +106,40 @@ only-of tx by (c ∷ cs) alone some = elim (or_cases (c.tx == by) _ some) [
   | inr later ↦ only-of tx by cs alone.1 later
 ]
 
--- the entries that the changes of a transaction leave, with one change of it more
-pub reserved-more : (was now : Entries) (slot tx t : ℕ) (k : Key) (filled : Bool) (c : SlotChange) (cs : List SlotChange) → c.tx ≡ tx → Changes was now t k (noted slot filled tx (was t k)) → AreReserved was cs → AreReserved now (c ∷ cs)
-reserved-more was now slot tx t k filled c cs of ch reserved t' k' row by some = elim (reserved-noted was now slot tx t k filled ch t' k' row by some) [
-  | inl old ↦ or_right (c.tx == by) _ (reserved t' k' row by old)
-  | inr is ↦ or_left (c.tx == by) _ (eq-eqb c.tx by (of ∙ is))
+-- the entries that moves of a transaction leave, with one change of it more
+pub reserved-more : (tx : ℕ) (s s' : TableSpace) (c : SlotChange) (cs : List SlotChange) → c.tx ≡ tx → Moves tx s s' → AreReserved (entries_of s) cs → AreReserved (entries_of s') (c ∷ cs)
+reserved-more tx s s' c cs of m reserved t k row by some = elim (m.emptied t k row by some) [
+  | inl old ↦ or_right (c.tx == by) _ (reserved t k row by old)
+  | inr is ↦ or_left (c.tx == by) _ (eq-eqb c.tx by (of ∙ sym is))
 ]
+
+-- moves come one after another
+pub moves-join : (tx : ℕ) (a b c : TableSpace) → Moves tx a b → Moves tx b c → Moves tx a c
+moves-join tx a b c m n = record {
+  tables = λ t. n.tables t ∙ m.tables t;
+  count = n.count ∙ m.count;
+  keeps = λ t k row some. n.keeps t k row (m.keeps t k row some);
+  emptied = λ t k row by some. elim (n.emptied t k row by some) [ inl old ↦ m.emptied t k row by old | inr is ↦ inr is ];
+}
+
+pub moves-none : (tx : ℕ) (s : TableSpace) → Moves tx s s
+moves-none tx s = record { tables = λ t. refl; count = refl; keeps = λ t k row some. some; emptied = λ t k row by some. inl some }
+
+pub moves-noted : (tx : ℕ) (s s' : TableSpace) (slot t page : ℕ) (k : Key) (filled : Bool) → IsSameTables s s' → owners_of s' ≡ slice_set (owners_of s) page (Some t) → Changes (entries_of s) (entries_of s') t k (noted slot filled tx (entries_of s t k)) → Moves tx s s'
+moves-noted tx s s' slot t page k filled tables owners c = record {
+  tables = tables;
+  count = ap (λ (os : List (Option ℕ)). length os) owners ∙ length-set (owners_of s) page (Some t);
+  keeps = keeps-noted (entries_of s) (entries_of s') slot tx t k filled c;
+  emptied = λ t' k' row by some. elim (reserved-noted (entries_of s) (entries_of s') slot tx t k filled c t' k' row by some) [ inl old ↦ inl old | inr is ↦ inr (sym is) ];
+}
+
+pub moves-made : (tx : ℕ) (s s' : TableSpace) (t : ℕ) (k : Key) → IsSameTables s s' → owners_of s' ≡ owners_of s → Changes (entries_of s) (entries_of s') t k (entries_of s t k ++ made tx ∷ []) → Moves tx s s'
+moves-made tx s s' t k tables owners c = record {
+  tables = tables;
+  count = ap (λ (os : List (Option ℕ)). length os) owners;
+  keeps = keeps-made (entries_of s) (entries_of s') tx t k c;
+  emptied = λ t' k' row by some. inl (reserved-made (entries_of s) (entries_of s') tx t k c t' k' row by some);
+}
 
 -- none is left once the only transaction is ended
 pub reserved-ends : (was now : Entries) (tx : ℕ) → Ends was now tx → ((t : ℕ) (k : Key) (row by : ℕ) → list_any (is_emptied_by row by) (was t k) ≡ true → by ≡ tx) → AreReserved now []

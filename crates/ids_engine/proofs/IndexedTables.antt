@@ -51,7 +51,7 @@ table-new own slots standing s i whole bytes e is unused = at (entries.row_of (e
     at : (o : Option ℕ) → entries.row_of (entries_of s 1 (key_in s 1 bytes)) ≡ o → entries.row_of (entries_of s 1 (key_in s 1 bytes)) ≡ None
     at None none = none
     at (Some q) there =
-        let r = i.agrees.directory.filled 1 (key_in s 1 bytes) q there in
+        let r = i.agrees.directs.directory.filled 1 (key_in s 1 bytes) q there in
         let owner : r.owner ≡ catalogue = (whole.pages _ r.owner r.holds.owned).first r.table_is in
         let held : Holds own slots q catalogue r.bytes = subst (λ (o : ℕ × ℕ). Holds own slots q o r.bytes) owner r.holds in
         let it = whole.entries q r.bytes held in

@@ -32,3 +32,7 @@ pub mod PageFilled
 pub mod PagesMade
 pub mod PagesPaged
 pub mod PagedRows
+pub mod KeyedSlots
+pub mod GoingBack
+pub mod HeldLaws
+pub mod HeldPlaces

@@ -10,3 +10,4 @@ pub mod Openings
 pub mod Journals
 pub mod RowKeys
 pub mod Indexed
+pub mod Held
