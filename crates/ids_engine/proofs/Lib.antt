@@ -36,3 +36,5 @@ pub mod KeyedSlots
 pub mod GoingBack
 pub mod HeldLaws
 pub mod HeldPlaces
+pub mod HeldTables
+pub mod HeldNothing

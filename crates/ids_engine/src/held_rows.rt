@@ -1,12 +1,13 @@
 //! Rows in pages, with a directory of their keys.
-ghost use Rattle.std.specs.Prelude.{◌≡◌, ◌≤◌, ◌<◌, ◌∷◌, [], ◌^◌, length, OnOk, OnErr, MatchResult, MatchOption, option_copied};
+ghost use Rattle.std.specs.Prelude.{◌≡◌, ◌≤◌, ◌<◌, ◌∷◌, [], ◌^◌, length, IfOk, OnOk, OnErr, MatchResult, MatchOption, option_copied};
 ghost use Rattle.ids_base.specs.RowIds.{row_number};
 ghost use Rattle.log_records.specs.Entries as says;
 ghost use Rattle.ids_model.specs.Slots.{own_at, slot_at};
-ghost use Rattle.ids_model.specs.Recovered.{run, AreOf};
+ghost use Rattle.ids_model.specs.Recovered.{nothing, run, AreOf};
+ghost use Rattle.ids_model.specs.Stands.{catalogue};
 ghost use Rattle.fast_recovery.specs.Keys.{HasKey, HasNoKey};
 ghost use Rattle.fast_recovery.specs.Places.{IsPlaceFor};
-ghost use Rattle.ids_engine.specs.Held.{IsOwnerIn, IsFullOf, SaysRow, PutsRow, TakesRow};
+ghost use Rattle.ids_engine.specs.Held.{IsOwnerIn, IsFullOf, SaysRow, PutsRow, PutsTable, TakesRow};
 
 use crate::change::{Change, stand};
 use crate::keyed_slots::{empty_slot, fill_slot};
@@ -15,11 +16,14 @@ use crate::row_keys::key_in;
 use crate::taking_back::take_all_back;
 use fast_recovery::owner::Owner;
 use ids_base::memory::Memory;
+use ids_base::name::Name;
 use ids_base::numbers::{TableNo, TxNo};
 use ids_base::row_bytes::RowBytes;
 use ids_base::row_id::RowId;
+use ids_base::shape::Shape;
 use std::alloc::Global;
 use std::marker::Model;
+use table_space::catalogue::CATALOGUE;
 use table_space::{NoSpace, TableSpace};
 
 /// What the records so far make of pages and rows, and the changes of the transaction that is open after them. A row is found by its
@@ -47,6 +51,20 @@ impl Model for HeldRows {
 }
 
 impl HeldRows {
+    /// So many pages, none of which has an owner, and no table but the catalogue. `Memory` where there is none for the pages.
+    pub fn new(alloc: Global, pages: u32) -> Result<HeldRows, Memory>
+        requires { pages < 2 ^ 24 }
+        ensures pages { IfOk result (λ held. held.pages ≡ pages) }
+        ensures state { IfOk result (λ held. held.state ≡ nothing) }
+    {
+        Ok(HeldRows {
+            pages: Pages::new(alloc, pages)?,
+            space: TableSpace::new(alloc, pages)?,
+            standing: Vec::new(alloc),
+            alloc,
+        })
+    }
+
     /// How many pages there are.
     pub fn pages(&self) -> u32
         ensures pages { result ≡ self.now.pages }
@@ -85,6 +103,7 @@ impl HeldRows {
         requires { SaysRow self.now.state table bytes.now }
         ensures { (r : SaysRow self.now.state table bytes.now) → MatchOption result (HasNoKey self.now.state table r.shape r.k) (λ place. HasKey self.now.state table r.shape r.k (row_number place.page place.slot)) }
     {
+        // Each row has its page's length.
         let _ = self.pages.count();
         let key = key_in(&self.space, table, bytes);
         self.space.find(table, &key)
@@ -127,6 +146,7 @@ impl HeldRows {
     {
         let copy = after.copy(self.alloc)?;
         self.standing.reserve(1)?;
+        // Each row has its page's length.
         let _ = self.pages.count();
         let bytes = after.bytes();
         let key = key_in(&self.space, table, bytes);
@@ -137,6 +157,51 @@ impl HeldRows {
             &mut self.space,
             row,
             Owner { table, row_length },
+            bytes,
+            tx,
+        );
+        stand(
+            &mut self.standing,
+            Change {
+                tx,
+                row,
+                before: None,
+                after: Some(copy),
+            },
+        );
+        Ok(())
+    }
+
+    /// Puts the row of a new table into its place in the catalogue, and keeps its name and shape. `Memory` where there is none for the
+    /// change, for the table, or for the entry of its number, and all is as it was then. Linear in the entries, and a copy of the row.
+    pub fn insert_table(
+        &mut self,
+        tx: TxNo,
+        row: RowId,
+        after: &RowBytes,
+        number: TableNo,
+        name: &Name,
+        shape: &Shape,
+    ) -> Result<(), Memory>
+        requires place { IsPlaceFor self.old.state catalogue self.old.pages row.page row.slot }
+        requires new { PutsTable self.old.state (row_number row.page row.slot) after.now number name.now shape.now }
+        ensures pages { self.new.pages ≡ self.old.pages }
+        ensures ok { OnOk result (self.new.state ≡ run self.old.state (says.HInsert tx 1 (row_number row.page row.slot) after.now ∷ [])) }
+        ensures err { OnErr result (self.new.state ≡ self.old.state) }
+    {
+        let copy = after.copy(self.alloc)?;
+        self.standing.reserve(1)?;
+        self.space.enter_table(number, name, shape, tx)?;
+        let bytes = after.bytes();
+        let row_length = bytes.len() as u16;
+        fill_slot(
+            &mut self.pages,
+            &mut self.space,
+            row,
+            Owner {
+                table: CATALOGUE,
+                row_length,
+            },
             bytes,
             tx,
         );
@@ -168,6 +233,7 @@ impl HeldRows {
     {
         let copy = before.copy(self.alloc)?;
         self.standing.reserve(1)?;
+        // Each row has its page's length.
         let _ = self.pages.count();
         let row_length = before.bytes().len() as u16;
         empty_slot(

@@ -25,6 +25,7 @@ pub(crate) fn empty_slot(
     ensures directs { Directs pages.new.own pages.new.slots space.new }
     ensures moves { Moves tx space.old space.new }
 {
+    // Each row has its page's length.
     let _ = pages.count();
     let Some(bytes) = pages.row_at(row.number()) else {
         return;
@@ -49,6 +50,7 @@ pub(crate) fn fill_slot(
     ensures directs { Directs pages.new.own pages.new.slots space.new }
     ensures moves { Moves tx space.old space.new }
 {
+    // Each row has its page's length.
     let _ = pages.count();
     let key = key_in(space, owner.table, bytes);
     space.note(owner.table, row, &key, true, tx);
