@@ -45,9 +45,6 @@ module _ (pages : PageMaps) (s : TableSpace) (owner : ℕ × ℕ) (page slot tx 
     pub fill-alone : is_alone n (entries_of s t k) ≡ true
     fill-alone = empty-alone n (entries_of s t k) (none-empty (entries_of s t k) ((λ i. row_of (entries_of s (at_table i) (key-is i))) ∙ p.new))
 
-    pub fill-found : has_entry_for n true (entries_of s t k) ≡ true
-    fill-found = (λ i. has_entry_for n true (entries_of s (at_table i) (key-is i))) ∙ p.entry
-
     module _ (s' : TableSpace) (c : Changes (entries_of s) (entries_of s') t k (noted n true tx (entries_of s t k))) (owners : owners_of s' ≡ slice_set (owners_of s) (page - 1) (Some t)) (tables : IsSameTables s s') where
       pub fill-moves : Moves tx s s'
       fill-moves = moves-noted tx s s' n t (page - 1) k true tables owners c

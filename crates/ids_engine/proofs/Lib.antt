@@ -38,3 +38,4 @@ pub mod HeldLaws
 pub mod HeldPlaces
 pub mod HeldTables
 pub mod HeldNothing
+pub mod HeldAsks
