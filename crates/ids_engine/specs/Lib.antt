@@ -1,5 +1,7 @@
 pub mod Blank
 pub mod Plans
+pub mod PageParts
+pub mod Paging
 pub mod Placing
 pub mod Kept
 pub mod Survival
@@ -7,3 +9,6 @@ pub mod Stores
 pub mod Openings
 pub mod Journals
 pub mod OutOfBlocks
+pub mod RowKeys
+pub mod Indexed
+pub mod Held

@@ -2,18 +2,28 @@
 #![tactic(auto)]
 
 mod blank;
+mod change;
+mod held_rows;
 mod init;
 pub mod journal_laws;
+mod keyed_slots;
 pub mod laws;
+mod pages;
 mod placing;
 mod ranges;
+mod row_keys;
 mod store;
 pub mod store_laws;
 mod store_opening;
+mod taking_back;
 
+pub use held_rows::HeldRows;
 pub use init::{InitPlan, init_disk};
+pub use pages::Pages;
 pub use store::{Changed, Store, StoreFault};
 
+#[cfg(test)]
+mod pages_tests;
 #[cfg(test)]
 mod store_tests;
 #[cfg(test)]
