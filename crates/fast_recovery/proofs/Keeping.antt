@@ -4,7 +4,7 @@ use Rattle.std.specs.List.{AllByRecursion}
 use Rattle.std.proofs.lemmas.List.{append-nil}
 use Rattle.ids_outside.specs.Counts.{last_count}
 use Rattle.ids_outside.specs.Images.{Image}
-use Rattle.ids_outside.specs.Stops.{Only, Elapses, Leaves}
+use Rattle.ids_outside.specs.Stops.{Only, Leaves}
 use Rattle.gate_blocks.specs.Gates.{block}
 use Rattle.log_records.specs.Entries.{Entry}
 use Rattle.log_records.specs.Bodies.{Body}
@@ -14,8 +14,9 @@ use Rattle.chunk_map.specs.declared.layout.Layout.{Layout}
 use Rattle.chunk_map.specs.Layouts.{IsLayout, HasPages}
 use Rattle.log_buffer.specs.Buffers.{Buffer, empty_at}
 use Rattle.log_buffer.specs.Kept.{Flushed, HasLog, HoldsFlushed, KeepsLog, Outlives, tail_entries}
-use Rattle.fast_recovery.specs.Opening.{SameLog, IsSince, IsCounted, OnlyBehind, TablesStay, files_from}
-use Rattle.fast_recovery.specs.Images.{Recovers, log_region, log_in}
+use Rattle.fast_recovery.specs.Opening.{SameLog, IsSince, OnlyBehind, files_from}
+use Rattle.fast_recovery.specs.Images.{log_region, log_in}
+use Rattle.fast_recovery.proofs.Stopping.{order}
 
 -- the log was read of an image that alone can be left
 pub is-read : {D : Type 0} (size : D → ℕ → ℕ) (image : D → Image) (can_leave : D → Image → Type 0) (tells : Type 0) (l : Layout) (next : ℕ) (disk : D)
@@ -42,9 +43,6 @@ all-flushed : (m n : ℕ) (marks : List Flushed) → AllByRecursion (λ (f : Flu
 all-flushed m n [] each = tt
 all-flushed m n (f ∷ marks) each = (λ by. each.0, all-flushed m n marks each.1)
 
-order : (a b : ℕ) → (b ≤ a) ⊎ (a < b)
-order a b = grind arith
-
 -- where nothing was appended, a front of nothing is a front of anything
 pub outlives-more : {D : Type 0} (now : D → ℕ) (left_at : D → ℕ → Image → Type 0) (since : ℕ) (base : Image) (before all : List Entry) (marks : List Flushed) (f : Files) (disk : D)
     → Outlives now left_at since base before [] marks f disk → Outlives now left_at since base before all marks f disk
@@ -62,40 +60,9 @@ outlives-more now left_at since base before all marks f disk outlives = λ room 
     nothing-front [] rest parts = refl
     nothing-front (e ∷ front) rest parts = cc
 
--- a moment that is counted is one since the beginning
-pub is-since : {D : Type 0} (now : D → ℕ) (image : D → Image) (can_leave : D → Image → Type 0) (old : D) (settled : Type 0) (m : ℕ)
-    → IsCounted now image can_leave old settled m → IsSince now image can_leave old m
-is-since now image can_leave old settled m (inl early) = inl early
-is-since now image can_leave old settled m (inr late) = inr late.0
-
 -- the disk's image was read from old to mid, and the places behind its log were closed from mid to new
 module _ {D : Type 0} (size : D → ℕ → ℕ) (now : D → ℕ) (image : D → Image) (can_leave : D → Image → Type 0) (left_at : D → ℕ → Image → Type 0)
     (no_later : (d : D) (m : ℕ) (c : Image) → left_at d m c → m ≤ now d) (only_now : (d : D) (c : Image) → now d < last_count → left_at d (now d) c → can_leave d c) where
-  -- behind a sync nothing is left but what it made durable
-  pub behind-sync : (old mid : D) (x : Image) → Elapses (now old) (now mid) (left_at old) (left_at mid) (can_leave mid) → Only x (can_leave mid) → OnlyBehind now left_at x old mid
-  behind-sync old mid x elapses only room m c from left = at (elapses.nothing_else room m c left)
-    where
-      at : left_at old m c ⊎ ((now old ≤ m) × can_leave mid c) → c ≡ x
-      at (inl past) = absurd (omega (arith, from, no_later old m c past))
-      at (inr here) = only c here.1
-
-  -- nor behind reads
-  pub behind-reads : (old mid new : D) (x : Image) → OnlyBehind now left_at x old mid → Only x (can_leave mid) → Leaves now can_leave left_at mid new (λ y z. z ≡ y) → OnlyBehind now left_at x old new
-  behind-reads old mid new x behind only reads room m c from left = at (order m (now mid))
-    where
-      at : (now mid ≤ m) ⊎ (m < now mid) → c ≡ x
-      at (inl late) = let was = reads.during room m late c left in was.2 ∙ only was.0 was.1
-      at (inr early) = behind (omega (arith, room, reads.later)) m c from (reads.before room m early c left)
-
-  -- so the tables stay over a run of reads
-  pub read-tables : (old new : D) (settled : Type 0) → Leaves now can_leave left_at old new (λ y z. z ≡ y) → (settled → OnlyBehind now left_at (image old) old new)
-      → TablesStay now image can_leave left_at old new settled
-  read-tables old new settled reads behind room m c counted left T recovers = subst (λ (y : Image). Recovers y T) (sym (at counted)) recovers
-    where
-      at : IsCounted now image can_leave old settled m → c ≡ image old
-      at (inl early) = let was = reads.during room m early.0 c left in was.2 ∙ early.1 was.0 was.1
-      at (inr late) = behind late.1 room m c late.0 left
-
   -- a stop since the beginning left its log
   pub same-since : (old mid new : D) (f : Files) → Leaves now can_leave left_at old mid (λ x y. y ≡ x) → OnlyBehind now left_at (image old) old mid → Only (image old) (can_leave mid)
       → Leaves now can_leave left_at mid new (SameLog f) → now new < last_count → (m : ℕ) (c : Image) → IsSince now image can_leave old m → left_at new m c → SameLog f (image old) c

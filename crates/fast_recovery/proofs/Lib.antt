@@ -21,6 +21,7 @@ pub mod Ordered
 pub mod BlocksRead
 pub mod EmptyBase
 pub mod SeenTables
+pub mod Stopping
 pub mod Keeping
 pub mod Causes
 pub mod Results

@@ -74,18 +74,26 @@ IsSince {D} now image can_leave old since = ((now old ≤ since) × Only (image 
 abbrev pub OnlyBehind : {D : Type 0} → (D → ℕ) → (D → ℕ → Image → Type 0) → Image → D → D → Type 0
 OnlyBehind {D} now left_at x old new = now new < last_count → (m : ℕ) (c : Image) → now old < m → left_at new m c → c ≡ x
 
--- such a moment, and of the later ones only where this holds
-abbrev pub IsCounted : {D : Type 0} → (D → ℕ) → (D → Image) → (D → Image → Type 0) → D → Type 0 → ℕ → Type 0
-IsCounted {D} now image can_leave old settled m = ((now old ≤ m) × Only (image old) (can_leave old)) ⊎ ((now old < m) × settled)
+-- nothing more was made to stay: a read sees what it saw, and each image that a stop could leave at a moment since could have been left as the call began
+pub record IsUnsynced {D : Type 0} (now : D → ℕ) (image : D → Image) (can_leave : D → Image → Type 0) (left_at : D → ℕ → Image → Type 0) (old new : D) : Type 0 where
+  pub same : image new ≡ image old
+  pub left : (m : ℕ) (c : Image) → now old ≤ m → left_at new m c → can_leave old c
+
+-- Each stop since the call began leaves such an image: from the moment of its beginning on where a stop could then leave nothing but the image that was read; else at each moment
+-- behind it, or the call failed so and nothing more was made to stay.
+pub record EachStop {D : Type 0} (now : D → ℕ) (image : D → Image) (can_leave : D → Image → Type 0) (left_at : D → ℕ → Image → Type 0) (old new : D)
+    (failed : Type 0) (good : ℕ → Image → Type 0) : Type 0 where
+  pub settled : Only (image old) (can_leave old) → (m : ℕ) (c : Image) → now old ≤ m → left_at new m c → good m c
+  pub behind : ((m : ℕ) (c : Image) → now old < m → left_at new m c → good m c) ⊎ (failed × IsUnsynced now image can_leave left_at old new)
 
 -- whatever tables are recovered from the first image are recovered from the second
 abbrev pub KeepsTables : Image → Image → Type 0
 KeepsTables x y = (T : Tables) → Recovers x T → Recovers y T
 
--- each stop at such a moment leaves the same tables
+-- where moments are counted, each such stop leaves the same tables
 abbrev pub TablesStay : {D : Type 0} → (D → ℕ) → (D → Image) → (D → Image → Type 0) → (D → ℕ → Image → Type 0) → D → D → Type 0 → Type 0
-TablesStay {D} now image can_leave left_at old new settled =
-    now new < last_count → (m : ℕ) (c : Image) → IsCounted now image can_leave old settled m → left_at new m c → KeepsTables (image old) c
+TablesStay {D} now image can_leave left_at old new failed =
+    now new < last_count → EachStop now image can_leave left_at old new failed (λ m c. KeepsTables (image old) c)
 
 -- the disk failed, or memory was wanting
 abbrev pub IsWant : OpenFault → Type 0

@@ -8,8 +8,8 @@
 //! 6. where a transaction is open, the ROLLBACK of it is appended and flushed.
 //!
 //! So a disk that is refused is as it was.
-ghost use Rattle.std.specs.Prelude.{◌≡◌, ◌≤◌, ◌<◌, ◌+◌, ◌*◌, ◌^◌, ℕ, List, [], Err, Some, None, length, IfOk, IfErr, OnOk, OnErr};
-ghost use Rattle.ids_outside.specs.Counts.{Rose};
+ghost use Rattle.std.specs.Prelude.{◌≡◌, ◌⊎◌, ◌≤◌, ◌<◌, ◌+◌, ◌*◌, ◌^◌, ℕ, List, [], Err, Some, None, length, IfOk, IfErr, OnOk, OnErr};
+ghost use Rattle.ids_outside.specs.Counts.{Rose, last_count};
 ghost use Rattle.ids_outside.specs.Images.{Image};
 ghost use Rattle.ids_outside.specs.Stops.{AreAmong, Leaves, Only};
 ghost use Rattle.chunk_map.specs.Layouts.{IsLayout, HasPages};
@@ -30,7 +30,7 @@ ghost use Rattle.fast_recovery.specs.Paged.{IsPaged};
 ghost use Rattle.fast_recovery.specs.PagedStates.{IsPagedState};
 ghost use Rattle.fast_recovery.specs.LogRead.{OpenCause, AreAlone};
 ghost use Rattle.fast_recovery.specs.RowDamaged.{RowsFault};
-ghost use Rattle.fast_recovery.specs.Opening.{files_from, FoundIn, SameLog, HasOpened, IsOpened, KeepsOpened, IsSince, OnlyBehind, TablesStay, IsWant, ClosingFault, IsRefusal, WasFormatted};
+ghost use Rattle.fast_recovery.specs.Opening.{files_from, FoundIn, SameLog, HasOpened, IsOpened, KeepsOpened, IsSince, OnlyBehind, IsUnsynced, TablesStay, IsWant, ClosingFault, IsRefusal, WasFormatted};
 
 use crate::fault::OpenFault;
 use crate::past::Past;
@@ -78,7 +78,8 @@ pub struct Opened {
 /// length, and an insert may name a page that has no owner yet; and at a row that the log leaves and that breaks a rule of well
 /// formed rows. `LogFull` where a transaction is open and the log has no block left; `Disk` only where a call of the disk failed;
 /// `Memory` where memory was wanting. Where the disk is refused, nothing was written. A stop at any moment leaves the tables as
-/// they were; where something was pending as the call began, at any moment behind that, unless the disk failed.
+/// they were; where something was pending as the call began, at any moment behind that, or, as where the first sync fails, the
+/// disk failed and a stop leaves only what it could have left as the call began.
 ///
 /// Reads the identity page once and the checkpoint pages twice, the blocks of the log up to the first that does not count, and
 /// the gate of each other block; a write for each open gate among these, two for the ROLLBACK, and a few syncs. It takes memory
@@ -93,7 +94,7 @@ pub fn open_log<D: Disk>(alloc: Global, disk: &mut D) -> Result<Opened, OpenFaul
     // Everything that is appended is kept from here on.
     ensures keeps { IfOk result (λ o. D.tells → (since : ℕ) → IsSince D.now D.image D.can_leave disk.old since
         → KeepsOpened D.size D.now D.image D.can_leave D.left_at since (D.image disk.old) o disk.new) }
-    ensures any_moment { TablesStay D.now D.image D.can_leave D.left_at disk.old disk.new (¬ (result ≡ Err OpenFault.Disk)) }
+    ensures any_moment { TablesStay D.now D.image D.can_leave D.left_at disk.old disk.new (result ≡ Err OpenFault.Disk) }
     ensures formatted { OnOk result (D.tells → IsFormatted (D.image disk.old)) }
     ensures was_formatted { IfErr result (λ e. D.tells → WasFormatted (D.image disk.old) e) }
     ensures fault { IfErr result (λ e. D.tells → OpenCause (D.image disk.old) e) }
@@ -170,8 +171,9 @@ fn read_disk<D: Disk>(alloc: Global, disk: &mut D) -> Result<(Layout, Past), Ope
     ensures stop { AreAmong (D.can_leave disk.new) (D.can_leave disk.old) }
     // A stop leaves what was read.
     ensures settled { IfOk result (λ r. Only (D.image disk.new) (D.can_leave disk.new)) }
-    // Also one behind the moment at which it began, once the sync was done.
-    ensures behind { ¬ (result ≡ Err OpenFault.Disk) → OnlyBehind D.now D.left_at (D.image disk.old) disk.old disk.new }
+    // Also one behind the moment at which it began, unless the disk failed.
+    ensures behind { OnlyBehind D.now D.left_at (D.image disk.old) disk.old disk.new
+        ⊎ ((result ≡ Err OpenFault.Disk) × (D.now disk.new < last_count → IsUnsynced D.now D.image D.can_leave D.left_at disk.old disk.new)) }
     ensures any_moment { Leaves D.now D.can_leave D.left_at disk.old disk.new (λ x y. y ≡ x) }
     ensures sizes { (j : ℕ) → D.size disk.new j ≡ D.size disk.old j }
     ensures counted { D.fault_count disk.old ≤ D.fault_count disk.new }

@@ -234,6 +234,13 @@ noted-emptied r by row tx filled es some = elim (first-emptied (if list_any (has
   | inr is ↦ inr (changed-tx r by row tx filled is)
 ]
 
+-- and where it was filled, was so before
+pub filled-emptied : (r by row tx : ℕ) (es : List Entry) → list_any (is_emptied_by r by) (noted row true tx es) ≡ true → list_any (is_emptied_by r by) es ≡ true
+filled-emptied r by row tx es some = elim (first-emptied (if list_any (has_row row) es then has_row row else is_new) (is_emptied_by r by) (changed row true tx) es some) [
+  | inl was ↦ was
+  | inr is ↦ absurd (cc)
+]
+
 -- The empty entries of a transaction are dropped.
 
 filled-stays : (row tx : ℕ) (x : Entry) → filled_row x.held ≡ Some row → stays tx x ≡ true

@@ -43,3 +43,9 @@ pub mod HeldPlaces
 pub mod HeldTables
 pub mod HeldNothing
 pub mod HeldAsks
+pub mod MadeChanges
+pub mod EntriesEntered
+pub mod RowsApart
+pub mod PagesOwned
+pub mod TablesEntered
+pub mod RowsEntered

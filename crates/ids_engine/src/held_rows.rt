@@ -4,17 +4,20 @@ ghost use Rattle.ids_base.specs.RowIds.{row_number};
 ghost use Rattle.log_records.specs.Entries as says;
 ghost use Rattle.ids_model.specs.Slots.{own_at, slot_at};
 ghost use Rattle.ids_model.specs.Recovered.{nothing, run, AreOf};
-ghost use Rattle.ids_model.specs.Stands.{catalogue};
+ghost use Rattle.ids_model.specs.Stands.{catalogue, IsWhole};
+ghost use Rattle.fast_recovery.specs.Paged.{IsPaged};
 ghost use Rattle.fast_recovery.specs.Keys.{HasKey, HasNoKey};
 ghost use Rattle.fast_recovery.specs.Places.{IsPlaceFor};
 ghost use Rattle.ids_engine.specs.Held.{IsOwnerIn, IsFullOf, SaysRow, PutsRow, PutsTable, TakesRow};
 
 use crate::change::{Change, stand};
+use crate::indexing::space_of;
 use crate::keyed_slots::{empty_slot, fill_slot};
 use crate::pages::Pages;
 use crate::row_keys::key_in;
 use crate::taking_back::take_all_back;
 use fast_recovery::owner::Owner;
+use fast_recovery::replay::Replay;
 use ids_base::memory::Memory;
 use ids_base::name::Name;
 use ids_base::numbers::{TableNo, TxNo};
@@ -65,10 +68,33 @@ impl HeldRows {
         })
     }
 
+    /// The rows and pages of a replay in which no change stands and whose rows are well formed, with the directory of their keys.
+    /// Logarithmic time for each page, each slot of a page that has an owner, and each row, and copies of the rows; `Memory` where there
+    /// is none for pages, tables and entries.
+    pub fn from_replay(alloc: Global, replay: &Replay, pages: u32) -> Result<HeldRows, Memory>
+        requires few { pages < 2 ^ 24 }
+        requires paged { IsPaged pages replay.now.own replay.now.slots }
+        requires quiet { replay.now.standing ≡ [] }
+        requires whole { IsWhole replay.now.own replay.now.slots }
+        ensures pages { IfOk result (λ held. held.pages ≡ pages) }
+        ensures state { IfOk result (λ held. held.state ≡ replay.now) }
+    {
+        let pages = Pages::from_replay(alloc, replay, pages)?;
+        let space = space_of(alloc, &pages)?;
+        Ok(HeldRows {
+            pages,
+            space,
+            standing: Vec::new(alloc),
+            alloc,
+        })
+    }
+
     /// How many pages there are.
     pub fn pages(&self) -> u32
         ensures pages { result ≡ self.now.pages }
         ensures few { result < 2 ^ 24 }
+        // Each owner, and each row, can stand in the pages.
+        ensures paged { IsPaged self.now.pages self.now.state.own self.now.state.slots }
     {
         self.pages.count()
     }
@@ -98,7 +124,8 @@ impl HeldRows {
         self.space.place_for(owner.table, tx)
     }
 
-    /// Where a table's row with the key of these bytes is; `None` exactly where the table has none. Linear in the entries.
+    /// Where a table's row with the key of these bytes is; `None` exactly where the table has none. Logarithmic in the keys,
+    /// and linear in the key's entries.
     pub fn row_with_key_of(&self, table: TableNo, bytes: &[u8]) -> Option<RowId>
         requires { SaysRow self.now.state table bytes.now }
         ensures { (r : SaysRow self.now.state table bytes.now) → MatchOption result (HasNoKey self.now.state table r.shape r.k) (λ place. HasKey self.now.state table r.shape r.k (row_number place.page place.slot)) }
@@ -109,7 +136,8 @@ impl HeldRows {
         self.space.find(table, &key)
     }
 
-    /// Forgets the changes of the only open transaction: they are made for good. Linear in the entries of keys; takes no memory.
+    /// Forgets the changes of the only open transaction: they are made for good. Linear in the changes, and the time of
+    /// `TableSpace::end_tx`; takes no memory.
     pub fn commit(&mut self, tx: TxNo)
         requires { AreOf tx self.old.state.standing }
         ensures pages { self.new.pages ≡ self.old.pages }
@@ -119,7 +147,8 @@ impl HeldRows {
         self.space.end_tx(tx);
     }
 
-    /// Takes the changes of the only open transaction back, the latest first. Linear in the entries for each change; takes no memory.
+    /// Takes the changes of the only open transaction back, the latest first. The time of `TableSpace::note` for each
+    /// change, and of `TableSpace::end_tx`; takes no memory.
     pub fn roll_back(&mut self, tx: TxNo)
         requires { AreOf tx self.old.state.standing }
         ensures pages { self.new.pages ≡ self.old.pages }
@@ -130,7 +159,7 @@ impl HeldRows {
     }
 
     /// Puts a new row of a table into its place. `Memory` where there is none for the change and for the entry of its key, and all is as
-    /// it was then. Linear in the entries, and a copy of the row.
+    /// it was then. The time of `TableSpace::enter_key` and `TableSpace::note`, and a copy of the row.
     pub fn insert(
         &mut self,
         tx: TxNo,
@@ -173,7 +202,8 @@ impl HeldRows {
     }
 
     /// Puts the row of a new table into its place in the catalogue, and keeps its name and shape. `Memory` where there is none for the
-    /// change, for the table, or for the entry of its number, and all is as it was then. Linear in the entries, and a copy of the row.
+    /// change, for the table, or for the entry of its number, and all is as it was then. The time of
+    /// `TableSpace::enter_table` and `TableSpace::note`, and a copy of the row.
     pub fn insert_table(
         &mut self,
         tx: TxNo,
@@ -217,8 +247,8 @@ impl HeldRows {
         Ok(())
     }
 
-    /// Takes a row of a table out of its slot. `Memory` where there is none for the change, and all is as it was then. Linear in the
-    /// entries, and a copy of the row.
+    /// Takes a row of a table out of its slot. `Memory` where there is none for the change, and all is as it was then. The time of
+    /// `TableSpace::note`, and a copy of the row.
     pub fn delete(
         &mut self,
         tx: TxNo,

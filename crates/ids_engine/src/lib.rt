@@ -4,10 +4,12 @@
 mod blank;
 mod change;
 mod held_rows;
+mod indexing;
 mod init;
 pub mod journal_laws;
 mod keyed_slots;
 pub mod laws;
+mod making;
 mod pages;
 mod placing;
 mod ranges;

@@ -142,11 +142,11 @@ fn what_is_not_committed_is_not_found(rt: HostRuntime) -> Result<(), Fail> {
 fn slot_of_seven<D: Disk>(alloc: Global, disk: &mut D) -> Result<[bool; 3], Fail> {
     let mut store = opened(alloc, disk)?;
     execute(alloc, &mut store, disk, &insert(alloc, b"t", 7)?)?;
-    let first = store.replay.row_at(513).is_some();
+    let first = store.rows.row_at(513).is_some();
     delete(alloc, &mut store, disk, 7)?;
-    let second = store.replay.row_at(513).is_some();
+    let second = store.rows.row_at(513).is_some();
     execute(alloc, &mut store, disk, &insert(alloc, b"t", 7)?)?;
-    let third = store.replay.row_at(513).is_some();
+    let third = store.rows.row_at(513).is_some();
     if store.commit(disk).is_err() {
         return Err("no commit".into());
     }

@@ -11,8 +11,8 @@ use Rattle.ids_model.specs.Matches.{Script}
 use Rattle.ids_model.specs.Answered.{fold_first}
 use Rattle.ids_model.specs.Served.{ServedAtStart}
 use Rattle.fast_recovery.specs.Images.{Recovers}
-use Rattle.fast_recovery.specs.Opening.{IsCounted, TablesStay}
-use Rattle.fast_recovery.proofs.Keeping.{is-since}
+use Rattle.fast_recovery.specs.Opening.{KeepsTables, TablesStay}
+use Rattle.fast_recovery.proofs.Stopping.{each-since, each-as}
 use Rattle.ids_engine.specs.declared.store.Store.{Store}
 use Rattle.ids_engine.specs.Survival.{Survives, IsLeft, tables_from}
 use Rattle.ids_engine.specs.Stores.{KeepsStore}
@@ -23,7 +23,7 @@ use Rattle.sql_reader.specs.Plans.{IsScriptOf}
 use Rattle.ids_server.specs.declared.runner.Runner.{Runner}
 use Rattle.ids_server.specs.Running.{Running, effects_of}
 use Rattle.ids_server.specs.Runners.{running_of, KeepsRun}
-use Rattle.ids_server.specs.Serving.{Serves, HasRun, LeavesFirst, HasBegun, RunsFrom, has_checked}
+use Rattle.ids_server.specs.Serving.{Serves, HasRun, LeavesFirst, RunsFrom, has_checked}
 
 -- where nothing was given and nothing committed, any script is served
 pub serves_nothing : ServedAtStart → (bytes : List ℕ) (found : Tables) (status : Status) → ¬ (status ≡ Done) → (has_checked status ≡ true → InGrammar bytes) → Serves bytes found status [] []
@@ -56,23 +56,15 @@ pub record RunLaws : Type 0 where
   pub leave : TransactionsLeaveTables
 
 module _ {D : Type 0} (tells : Type 0) (now : D → ℕ) (image : D → Image) (can_leave : D → Image → Type 0) (left_at : D → ℕ → Image → Type 0) where
-  -- no reply was given, so the disk did not fail
-  opened_at : (old : D) (status : Status) (settled : Type 0) (m : ℕ) → (¬ (status ≡ DiskFault) → settled) → IsCounted now image can_leave old (HasBegun status []) m → IsCounted now image can_leave old settled m
-  opened_at old status settled m so (inl early) = inl early
-  opened_at old status settled m so (inr late) = inr (late.0, at late.1)
-    where
-      at : HasBegun status [] → settled
-      at (inl sound) = so sound
-      at (inr some) = absurd (some refl)
-
   -- A disk on which nothing was run: where each stop leaves the tables as they were, it leaves those after no entry.
-  nothing_ran : ServedAtStart → (bytes : List ℕ) (found : Tables) (old new : D) (status : Status) (settled : Type 0) → ¬ (status ≡ Done) → (has_checked status ≡ true → InGrammar bytes)
-      → (¬ (status ≡ DiskFault) → settled) → TablesStay now image can_leave left_at old new settled → RunsFrom tells now image can_leave left_at bytes found old new status [] []
-  nothing_ran starts bytes found old new status settled not_done checked so stay = record {
+  nothing_ran : ServedAtStart → (bytes : List ℕ) (found : Tables) (old new : D) (status : Status) (failed : Type 0) → ¬ (status ≡ Done) → (has_checked status ≡ true → InGrammar bytes)
+      → (failed → status ≡ DiskFault) → TablesStay now image can_leave left_at old new failed → RunsFrom tells now image can_leave left_at bytes found old new status [] []
+  nothing_ran starts bytes found old new status failed not_done checked so stay = record {
     legal = tt;
     serves = serves_nothing starts bytes found status not_done checked;
     opened = λ t T recovers. inl (refl, refl);
-    any_moment = λ bound T recovers m c counted left. record { k = 0; covered = tt; recovers = stay bound m c (opened_at old status settled m so counted) left T recovers };
+    any_moment = λ bound. each-as now image can_leave left_at old new failed _ (λ m c. KeepsTables (image old) c) (λ m c. (T : Tables) → Recovers (image old) T → LeavesFirst T [] m c)
+        (λ fault. (so fault, refl, refl)) (λ m c keeps T recovers. record { k = 0; covered = tt; recovers = keeps T recovers }) (stay bound);
     at_end = λ done. absurd (not_done done);
   }
 
@@ -83,11 +75,11 @@ module _ {D : Type 0} (tells : Type 0) (now : D → ℕ) (image : D → Image) (
       subst (λ (js : List Committed). RunsFrom tells now image can_leave left_at bytes found old new status js told) (sym same)
       (subst (λ (gs : List Given). RunsFrom tells now image can_leave left_at bytes found old new status journal gs) (sym alike) ran)
 
-  pub runs_nothing : ServedAtStart → (bytes : List ℕ) (found : Tables) (old new : D) (status : Status) (settled : Type 0) (journal : List Committed) (given : List Given) → journal ≡ [] → given ≡ []
+  pub runs_nothing : ServedAtStart → (bytes : List ℕ) (found : Tables) (old new : D) (status : Status) (failed : Type 0) (journal : List Committed) (given : List Given) → journal ≡ [] → given ≡ []
       → ¬ (status ≡ Done) → (has_checked status ≡ true → InGrammar bytes)
-      → (¬ (status ≡ DiskFault) → settled) → TablesStay now image can_leave left_at old new settled → RunsFrom tells now image can_leave left_at bytes found old new status journal given
-  runs_nothing starts bytes found old new status settled journal given none no_reply not_done checked so stay =
-      runs_shown bytes found old new status [] journal [] given none no_reply (nothing_ran starts bytes found old new status settled not_done checked so stay)
+      → (failed → status ≡ DiskFault) → TablesStay now image can_leave left_at old new failed → RunsFrom tells now image can_leave left_at bytes found old new status journal given
+  runs_nothing starts bytes found old new status failed journal given none no_reply not_done checked so stay =
+      runs_shown bytes found old new status [] journal [] given none no_reply (nothing_ran starts bytes found old new status failed not_done checked so stay)
 
 module _ {D : Type 0} (tells : Type 0) (size : D → ℕ → ℕ) (now : D → ℕ) (image : D → Image) (can_leave : D → Image → Type 0) (left_at : D → ℕ → Image → Type 0) where
   -- a runner that was made of a store keeps what the store keeps
@@ -119,10 +111,10 @@ module _ {D : Type 0} (tells : Type 0) (size : D → ℕ → ℕ) (now : D → �
           unread = inr grammar;
         };
         opened = λ t T recovers. inr (finds T t recovers).tables;
-        any_moment = λ bound T recovers m c counted left.
+        any_moment = λ bound. each-since now image can_leave left_at old new _ (λ m c. (T : Tables) → Recovers (image old) T → LeavesFirst T journal m c) (λ m c since left T recovers.
             let found = finds T (left_tells new m c left) recovers in
             leaves_first laws.covered store.tables T journal m c found.tables ran.timely
-            (survives m (image old) store.tables (found.keeps m (is-since now image can_leave old (HasBegun status given) m counted)) bound m c (omega arith) left);
+            (survives m (image old) store.tables (found.keeps m since) bound m c (omega arith) left));
         at_end = λ done t T recovers c leave.
             let found = finds T t recovers in
             subst (Recovers c) (sym (ap (λ (F : Tables). fold_journal F journal) found.tables ∙ sym (laws.leave store.tables journal)))

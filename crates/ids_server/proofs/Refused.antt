@@ -7,10 +7,12 @@ use Rattle.ids_outside.specs.Counts.{last_count}
 use Rattle.ids_outside.specs.Images.{Image}
 use Rattle.ids_model.specs.declared.journal.Committed.{Committed}
 use Rattle.ids_model.specs.declared.journal.Given.{Given}
+use Rattle.ids_model.specs.Tables.{Tables}
 use Rattle.ids_model.specs.Served.{ServedAtStart}
 use Rattle.fast_recovery.specs.Images.{Recovers}
-use Rattle.fast_recovery.specs.Opening.{IsCounted}
-use Rattle.ids_server.specs.Serving.{Serves, HasBegun, RunsFrom, has_checked}
+use Rattle.fast_recovery.specs.Opening.{IsSince}
+use Rattle.fast_recovery.proofs.Stopping.{each-since}
+use Rattle.ids_server.specs.Serving.{Serves, LeavesFirst, RunsFrom, has_checked}
 
 not_done : (status : Status) → has_checked status ≡ false → ¬ (status ≡ Done)
 not_done status unchecked done = cc (unchecked, ap has_checked done)
@@ -27,12 +29,12 @@ serves_none starts bytes status unchecked = record {
 module _ {D : Type 0} (tells : Type 0) (now : D → ℕ) (image : D → Image) (can_leave : D → Image → Type 0) (left_at : D → ℕ → Image → Type 0) where
   -- what a stop leaves at this moment is what a read gives, where nothing else can be left; and there is no later one
   left_now : ((d : D) (c : Image) → now d < last_count → left_at d (now d) c → can_leave d c) → ((d : D) (m : ℕ) (c : Image) → left_at d m c → m ≤ now d)
-      → (d : D) (settled : Type 0) → now d < last_count → (m : ℕ) (c : Image) → IsCounted now image can_leave d settled m → left_at d m c → c ≡ image d
-  left_now only_now no_later d settled bound m c (inl early) left =
+      → (d : D) → now d < last_count → (m : ℕ) (c : Image) → IsSince now image can_leave d m → left_at d m c → c ≡ image d
+  left_now only_now no_later d bound m c (inl early) left =
       let no_more : m ≤ now d = no_later d m c left in
       let is : m ≡ now d = omega (arith, early.0) in
       early.1 c (only_now d c bound (subst (λ (k : ℕ). left_at d k c) is left))
-  left_now only_now no_later d settled bound m c (inr late) left = absurd (omega (arith, late.0, no_later d m c left))
+  left_now only_now no_later d bound m c (inr late) left = absurd (omega (arith, late, no_later d m c left))
 
   pub runs_none : ((d : D) (c : Image) → now d < last_count → left_at d (now d) c → can_leave d c) → ((d : D) (m : ℕ) (c : Image) → left_at d m c → m ≤ now d)
       → ServedAtStart → (bytes : List ℕ) (d : D) (status : Status) (journal : List Committed) (given : List Given) → journal ≡ [] → given ≡ []
@@ -44,7 +46,7 @@ module _ {D : Type 0} (tells : Type 0) (now : D → ℕ) (image : D → Image) (
         legal = tt;
         serves = serves_none starts bytes status unchecked;
         opened = λ t T recovers. inl (refl, refl);
-        any_moment = λ bound T recovers m c counted left.
-            record { k = 0; covered = tt; recovers = subst (λ (x : Image). Recovers x T) (sym (left_now only_now no_later d (HasBegun status []) bound m c counted left)) recovers };
+        any_moment = λ bound. each-since now image can_leave left_at d d _ (λ m c. (T : Tables) → Recovers (image d) T → LeavesFirst T [] m c) (λ m c since left T recovers.
+            record { k = 0; covered = tt; recovers = subst (λ (x : Image). Recovers x T) (sym (left_now only_now no_later d bound m c since left)) recovers });
         at_end = λ done. absurd (not_done status unchecked done);
       }))

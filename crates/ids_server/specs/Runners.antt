@@ -34,9 +34,9 @@ Goes effect = IsOneChange effect × TakesRow effect
 
 -- the owner has no slot for one more row and no page can be had, or no number is left for a table; and these are all the slots and pages that the owner has
 pub record IsFullFor (s : Store) (effect : Effect) (owner : ℕ × ℕ) (rows pages : ℕ) : Type 0 where
-  pub none : HasNoPlace s.replay owner (s.layout.chunks * s.layout.data_pages) ⊎ HasNoNumber s.greatest effect
-  pub slots : rows ≡ owned_pages s.replay.own owner (s.layout.chunks * s.layout.data_pages) * slot_count owner.1
-  pub owned : pages ≡ owned_pages s.replay.own owner (s.layout.chunks * s.layout.data_pages)
+  pub none : HasNoPlace s.rows.state owner (s.layout.chunks * s.layout.data_pages) ⊎ HasNoNumber s.greatest effect
+  pub slots : rows ≡ owned_pages s.rows.state.own owner (s.layout.chunks * s.layout.data_pages) * slot_count owner.1
+  pub owned : pages ≡ owned_pages s.rows.state.own owner (s.layout.chunks * s.layout.data_pages)
 
 -- there is no room for the one effect of a statement
 pub record HasNoRoom (s : Store) (statement : DataStatement) (rows pages : ℕ) : Type 0 where

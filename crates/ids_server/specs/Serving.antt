@@ -13,7 +13,7 @@ use Rattle.ids_model.specs.Answered.{Answered, fold_first}
 use Rattle.ids_model.specs.Covered.{Covered}
 use Rattle.ids_engine.specs.Journals.{AreTimely}
 use Rattle.fast_recovery.specs.Images.{Recovers}
-use Rattle.fast_recovery.specs.Opening.{IsCounted}
+use Rattle.fast_recovery.specs.Opening.{EachStop}
 use Rattle.sql_reader.specs.Lines.{InGrammar}
 use Rattle.sql_reader.specs.Plans.{IsScriptOf}
 
@@ -140,18 +140,15 @@ pub record LeavesFirst (T : Tables) (journal : List Committed) (m : ℕ) (c : Im
   pub covered : Covered journal m k
   pub recovers : Recovers c (fold_first T journal k)
 
--- the disk did not fail, or it did so once a reply was given
-abbrev pub HasBegun : Status → List Given → Type 0
-HasBegun status given = (¬ (status ≡ DiskFault)) ⊎ (¬ (given ≡ []))
-
 -- What `run` leaves for a script of these bytes, over the tables that opening found. Where an image recovers tables, those are the ones that were found, unless opening was refused.
--- A stop at a moment of the call leaves the tables after the first entries of the journal, with each that was acknowledged by then: at the moment of its beginning where nothing else
--- could be left then; and at each moment behind it, unless the disk failed before there was a reply. Where all was done, what a stop leaves has the whole journal.
+-- A stop leaves the tables after the first entries of the journal, with each that was acknowledged by then: at each moment from that of the beginning on, where nothing but the image
+-- could be left then; else at each moment behind it, or the disk failed before anything was given or committed, and a stop leaves what it could have left as the call began. Where all was
+-- done, what a stop leaves has the whole journal.
 pub record RunsFrom {D : Type 0} (tells : Type 0) (now : D → ℕ) (image : D → Image) (can_leave : D → Image → Type 0) (left_at : D → ℕ → Image → Type 0)
     (bytes : List ℕ) (found : Tables) (old new : D) (status : Status) (journal : List Committed) (given : List Given) : Type 0 where
   pub legal : IsLegal found journal
   pub serves : Serves bytes found status journal given
   pub opened : tells → (T : Tables) → Recovers (image old) T → ((journal ≡ []) × (given ≡ [])) ⊎ (T ≡ found)
-  pub any_moment : now new < last_count → (T : Tables) → Recovers (image old) T
-      → (m : ℕ) (c : Image) → IsCounted now image can_leave old (HasBegun status given) m → left_at new m c → LeavesFirst T journal m c
+  pub any_moment : now new < last_count → EachStop now image can_leave left_at old new ((status ≡ DiskFault) × (journal ≡ []) × (given ≡ []))
+      (λ m c. (T : Tables) → Recovers (image old) T → LeavesFirst T journal m c)
   pub at_end : status ≡ Done → tells → (T : Tables) → Recovers (image old) T → (c : Image) → can_leave new c → Recovers c (fold_journal T journal)

@@ -186,7 +186,8 @@ pub fn server<D: Disk + Send, S: Source, K: Sink + Send, G: Gate + Sync>(
 
     // A run: the journal is legal from the tables that opening found and matches the script; a stop at any moment leaves the tables
     // after its first entries, with each that was acknowledged by then. Where something was pending as the call began, at any moment
-    // behind that, unless the disk failed before there was a reply.
+    // behind that, or, as where opening's first sync fails, the disk failed before anything was given or committed, and a stop leaves
+    // only what it could have left as the call began.
     ensures ran { is_run words.now ≡ true → (found : Tables) × (bytes : List ℕ) × (S.tells → S.left script.old ≡ bytes)
         × RunsFrom D.tells D.now D.image D.can_leave D.left_at bytes found disk result.disk result.status result.journal result.given }
     ensures idle { is_run words.now ≡ false → (result.journal ≡ []) × (result.given ≡ []) }

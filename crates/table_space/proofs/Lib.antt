@@ -10,3 +10,5 @@ pub mod Fronts
 pub mod Alone
 pub mod MarkTrees
 pub mod Rooms
+pub mod Counting
+pub mod Counts

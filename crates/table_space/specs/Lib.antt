@@ -12,4 +12,5 @@ pub mod Owners
 pub mod Places
 pub mod Rooms
 pub mod Seen
+pub mod Slots
 pub mod Space

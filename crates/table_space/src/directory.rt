@@ -1,5 +1,5 @@
 //! The directory of keys.
-ghost use Rattle.std.specs.Prelude.{◌≡◌, ◌≢◌, ◌&&◌, ◌++◌, ◌∷◌, ◌<◌, ◌≤◌, [], ◌↔◌, ℕ, true, None, Some, IfOk, OnOk, OnErr, IsTrue, IsSome, length};
+ghost use Rattle.std.specs.Prelude.{◌≡◌, ◌≢◌, ◌&&◌, ◌++◌, ◌∷◌, ◌<◌, ◌≤◌, ◌^◌, [], ◌↔◌, ℕ, true, None, Some, IfOk, IfSome, OnOk, OnErr, IsTrue, IsSome, length};
 ghost use Rattle.std.specs.List.{list_any, slice_get, filter};
 ghost use Rattle.ids_base.specs.declared.lock.Key.{Key as TheKey};
 ghost use Rattle.table_space.specs.Entries.{has_row, is_new, blocks, fills, stays};
@@ -9,11 +9,13 @@ ghost use Rattle.table_space.specs.Indexed.{IsIndexed};
 ghost use Rattle.table_space.specs.Numbers.{number_of, entries_in, entries_under};
 ghost use Rattle.table_space.specs.Noted.{row_of, made, noted, has_entry_for, is_alone};
 ghost use Rattle.table_space.specs.Seen.{Changes, IsSame, Ends, IsBlocked};
+ghost use Rattle.table_space.specs.Slots.{AreCounts, HasAllAt};
 
 use crate::entries;
 use crate::entries::FREE;
 use crate::entry::{Entry, Keyed};
 use crate::marks::Marks;
+use crate::slots::Slots;
 use ids_base::lock::Key;
 use ids_base::memory::Memory;
 use ids_base::numbers::{TableNo, TxNo};
@@ -24,27 +26,31 @@ use std::collections::BTreeMap;
 /// The entries of all keys. Contracts see the entries of each table and key.
 ///
 /// Each key that has entries has a number, under which they stand in `listed`; `marks` finds the numbers of entries that go with a
-/// transaction, and those that are free.
+/// transaction, and those that are free; `slots` counts the entries that have a slot, and tells which number was last noted there.
 #[derive(Drop)]
 pub struct Directory {
     numbers: BTreeMap<(TableNo, Key), usize>,
     listed: Vec<Keyed>,
     marks: Marks,
+    slots: Slots,
     alloc: Global,
     ghost indexed: { IsIndexed numbers listed.items marks },
+    ghost counted: { AreCounts slots listed.items },
 }
 
 impl Directory {
     ghost use Rattle.table_space.specs.Directory.{entries_at, EndsUnder};
 
-    /// No key has an entry. It takes memory, the same for each directory.
-    pub(crate) fn new(alloc: Global) -> Result<Directory, Memory>
+    /// No key has an entry. Takes memory in proportion to the pages.
+    pub(crate) fn new(alloc: Global, pages: u32) -> Result<Directory, Memory>
+        requires { pages < 2 ^ 24 }
         ensures { IfOk result (λ directory. (t : ℕ) (k : TheKey) → entries_at directory t k ≡ []) }
     {
         Ok(Directory {
             numbers: BTreeMap::new(alloc),
             listed: Vec::new(alloc),
             marks: Marks::new(alloc, 1)?,
+            slots: Slots::new(alloc, pages)?,
             alloc,
         })
     }
@@ -203,16 +209,18 @@ impl Directory {
         match self.number(table, key) {
             Some(number) => {
                 let keyed = &mut self.listed[number];
+                let more = !entries::some_with_row(keyed.entries.as_slice(), row);
                 entries::note(&mut keyed.entries, row, filled, tx);
                 let marks = entries::marks_of(keyed.entries.as_slice());
                 self.marks.set(number, marks);
+                self.slots.note(row, number, more);
             }
             None => unreachable!(),
         }
     }
 
     /// Drops the empty entries of a transaction. In proportion to the keys with entries that go with a transaction whose number is the same
-    /// modulo 63, each in logarithmic time; takes no memory.
+    /// modulo 63, each in logarithmic time and linear in its entries; takes no memory.
     pub(crate) fn end(&mut self, tx: TxNo)
         ensures { Ends (entries_at self.old) (entries_at self.new) tx }
     {
@@ -232,14 +240,15 @@ impl Directory {
             return;
         }
         let keyed = &mut self.listed[number];
+        self.slots.end(keyed.entries.as_slice(), tx);
         keyed.entries.retain(|entry| entry.stays(tx));
         let marks = entries::marks_of(keyed.entries.as_slice());
         unname(&mut self.numbers, keyed, number);
         self.marks.set(number, marks);
     }
 
-    /// Up to where the slots of a row's page are filled, no further than they were used, where they are up to one and the row is there. Linear in
-    /// the entries for each slot but the row's that it finds filled, and for one more.
+    /// Up to where the slots of a row's page are filled, no further than they were used, where they are up to one and the row is there. Looks as
+    /// `blocks` does at each slot but the row's that it finds filled, and at one more.
     pub(crate) fn filled_to(&self, row: RowId, from: u8, used: u8) -> u8
         requires filled { AreFilled (entries_at self.now) row.page from }
         requires here { IsFilled (entries_at self.now) (row_number row.page row.slot) }
@@ -254,18 +263,59 @@ impl Directory {
         last
     }
 
-    // Whether an entry fills the slot. Linear in the entries.
+    // Whether an entry fills the slot. Constant time where no entry has it, else linear in the entries of the key that was last noted there;
+    // linear in all entries where several keys have the slot and that one does not fill it.
     fn fills(&self, row: u32) -> bool
         ensures { IsTrue result ↔ IsFilled (entries_at self.now) row }
     {
-        filled(&self.listed, row)
+        match self.known(row) {
+            Some(entries) => entries::some_fill(entries, row),
+            None => {
+                entries::some_fill(self.under(self.slots.key(row)), row)
+                    || filled(&self.listed, row)
+            }
+        }
     }
 
-    /// Whether an entry fills the slot, or reserves it for a transaction other than this one. Linear in the entries.
+    /// Whether an entry fills the slot, or reserves it for a transaction other than this one. Constant time where no entry has it, else linear in
+    /// the entries of the key that was last noted there; linear in all entries where several keys have the slot and that one does neither.
     pub(crate) fn blocks(&self, row: u32, tx: TxNo) -> bool
         ensures { IsTrue result ↔ IsBlocked (entries_at self.now) row tx }
     {
-        blocked(&self.listed, row, tx)
+        match self.known(row) {
+            Some(entries) => entries::some_block(entries, row, tx),
+            None => {
+                entries::some_block(self.under(self.slots.key(row)), row, tx)
+                    || blocked(&self.listed, row, tx)
+            }
+        }
+    }
+
+    // Entries among which are all that have the slot, where its count tells: none, or those of the key that was last noted there. Linear in
+    // the entries of that key.
+    fn known(&self, row: u32) -> Option<&[Entry]>
+        ensures { IfSome result (λ entries. HasAllAt self.now.listed.items row entries.now) }
+    {
+        let count = self.slots.count(row);
+        if count == 0 {
+            return Some(&[]);
+        }
+        let last = self.under(self.slots.key(row));
+        if count == 1 && entries::some_with_row(last, row) {
+            Some(last)
+        } else {
+            None
+        }
+    }
+
+    // The entries under a number, where there are any.
+    fn under(&self, number: usize) -> &[Entry]
+        ensures { result.now ≡ entries_in (slice_get self.now.listed.items number) }
+    {
+        match self.listed.get(number) {
+            None => &[],
+            Some(keyed) => keyed.entries.as_slice(),
+        }
     }
 }
 
@@ -287,14 +337,14 @@ fn unname(numbers: &mut BTreeMap<(TableNo, Key), usize>, keyed: &Keyed, number: 
     }
 }
 
-// Whether an entry blocks a slot.
+// Whether an entry blocks a slot. Linear in all entries.
 fn blocked(listed: &[Keyed], row: u32, tx: TxNo) -> bool
     ensures { result ≡ list_any (λ l. list_any (blocks row tx) l.entries.items) listed.now }
 {
     listed.iter().any(|keyed| entries::some_block(keyed.entries.as_slice(), row, tx))
 }
 
-// Whether an entry fills a slot.
+// Whether an entry fills a slot. Linear in all entries.
 fn filled(listed: &[Keyed], row: u32) -> bool
     ensures { result ≡ list_any (λ l. list_any (fills row) l.entries.items) listed.now }
 {

@@ -61,8 +61,8 @@ fn without_row(entries: &[Entry]) -> Option<usize>
     entries.iter().position(|entry| entry.is_new())
 }
 
-// Whether an entry has this row id.
-fn some_with_row(entries: &[Entry], row: u32) -> bool
+/// Whether an entry has this row id. Linear.
+pub(crate) fn some_with_row(entries: &[Entry], row: u32) -> bool
     ensures { result ≡ list_any (has_row row) entries.now }
 {
     entries.iter().any(|entry| entry.has_row(row))

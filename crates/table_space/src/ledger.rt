@@ -8,8 +8,9 @@ ghost use Rattle.table_space.specs.Directory.{entries_at};
 ghost use Rattle.table_space.specs.Noted.{made, noted, has_entry_for};
 ghost use Rattle.table_space.specs.Seen.{Changes, IsSame, Ends, AreBlocked, IsBlocked, IsFirstVacant};
 ghost use Rattle.table_space.specs.Fronts.{IsFront};
-ghost use Rattle.table_space.specs.Rooms.{AreFull, IsNextPage};
+ghost use Rattle.table_space.specs.Rooms.{AreFull, IsNextPage, narrow_of};
 
+use crate::catalogue::CATALOGUE;
 use crate::directory::Directory;
 use crate::front::Front;
 use crate::marks::Marks;
@@ -19,16 +20,23 @@ use ids_base::memory::Memory;
 use ids_base::numbers::{TableNo, TxNo};
 use ids_base::row_id::RowId;
 use std::alloc::Global;
+use std::collections::BTreeMap;
 use std::marker::Model;
 
+// No page has more slots.
+const WIDEST: u8 = 255;
+
 /// The entries of all keys and the owners of all pages, with a front for each page. Contracts see the directory and the owners.
+///
+/// `room` marks the pages that are not known to be full, each with the mark of its table; `narrow` has for each table the fewest slots with
+/// which a page of it lost its mark.
 #[derive(Drop)]
 pub struct Ledger {
     directory: Directory,
     owners: Owners,
     fronts: Vec<Front>,
     room: Marks,
-    narrow: Vec<u8>,
+    narrow: BTreeMap<TableNo, u8>,
 }
 
 impl Model for Ledger {
@@ -49,7 +57,7 @@ impl Model for Ledger {
 
     ghost view = { λ a. record { directory = a.directory; owners = a.owners } };
 
-    ghost invariant = { λ a. (length a.fronts.items ≡ length a.owners) × AreFronts (entries_at a.directory) a.fronts.items × AreRooms (entries_at a.directory) a.owners a.room a.narrow.items };
+    ghost invariant = { λ a. (length a.fronts.items ≡ length a.owners) × AreFronts (entries_at a.directory) a.fronts.items × AreRooms (entries_at a.directory) a.owners a.room a.narrow };
 }
 
 impl Ledger {
@@ -60,12 +68,14 @@ impl Ledger {
         ensures entries { IfOk result (λ ledger. (t : ℕ) (k : TheKey) → entries_at ledger.directory t k ≡ []) }
     {
         let front = Front { filled: 0, used: 0 };
+        let mut narrow = BTreeMap::new(alloc);
+        narrow.insert(CATALOGUE, WIDEST)?;
         Ok(Ledger {
-            directory: Directory::new(alloc)?,
+            directory: Directory::new(alloc, pages)?,
             owners: Owners::new(alloc, pages)?,
             fronts: vec![in alloc; front; pages as usize]?,
             room: Marks::new(alloc, pages as usize)?,
-            narrow: vec![in alloc; 255; 63]?,
+            narrow,
         })
     }
 
@@ -81,6 +91,18 @@ impl Ledger {
         ensures { result.now ≡ self.now.owners }
     {
         &self.owners
+    }
+
+    /// Makes room for what `note` keeps of a table, unless there is. Answers `Memory` only for want of memory, and all is as it was then.
+    /// Logarithmic in the tables.
+    pub(crate) fn enter_table(&mut self, table: TableNo) -> Result<(), Memory>
+        ensures directory { self.new.directory ≡ self.old.directory }
+        ensures owners { self.new.owners ≡ self.old.owners }
+    {
+        if !self.narrow.contains_key(&table) {
+            self.narrow.insert(table, WIDEST)?;
+        }
+        Ok(())
     }
 
     /// An entry more of a key, as in the directory.
@@ -102,7 +124,7 @@ impl Ledger {
     }
 
     /// Fills or empties an entry, as in the directory, and gives its page to the table. Where a slot is filled, those after it are looked
-    /// at, as far as they are filled and were used before.
+    /// at, as far as they are filled and were used before; each in the time of the directory's `blocks`.
     pub(crate) fn note(
         &mut self,
         table: TableNo,
@@ -128,31 +150,41 @@ impl Ledger {
             front.lowered(row.slot)
         };
         self.fronts[row.page as usize - 1] = Front { filled: last, used };
-        let class = class_of(table);
         mark_page(
             &mut self.room,
             &mut self.narrow,
             row.page,
-            class,
+            table,
             slots,
             last,
         );
     }
 
-    /// The next page from one on that may be the table's and have a vacant slot, where its pages have so many slots. Logarithmic in the pages.
+    /// Gives a page to a table, and takes it for one that may have a vacant slot. Logarithmic in the pages; takes no memory.
+    pub(crate) fn own(&mut self, table: TableNo, page: u32)
+        requires first { 1 ≤ page }
+        requires last { page ≤ length self.old.owners }
+        ensures owned { self.new.owners ≡ slice_set self.old.owners (page - 1) (Some table) }
+        ensures directory { self.new.directory ≡ self.old.directory }
+    {
+        self.owners.set(page, table);
+        mark_page(&mut self.room, &mut self.narrow, page, table, 0, 0);
+    }
+
+    /// The next page from one on that may be the table's and have a vacant slot, where its pages have so many slots. Logarithmic in the pages and
+    /// the tables. Where pages of the table were noted with fewer slots, it is the next of all pages.
     pub(crate) fn next_page(&self, table: TableNo, slots: u8, from: u32) -> Option<u32>
         requires { 1 ≤ from }
         ensures { MatchOption result (AreFull (entries_at self.now.directory) self.now.owners table slots from (length self.now.owners + 1)) (IsNextPage (entries_at self.now.directory) self.now.owners table slots from) }
     {
-        let class = class_of(table);
-        if slots > self.narrow[class as usize] {
+        if slots > narrow_of(&self.narrow, table) {
             return if from <= self.owners.pages() {
                 Some(from)
             } else {
                 None
             };
         }
-        match self.room.next(from as usize - 1, class) {
+        match self.room.next(from as usize - 1, class_of(table)) {
             Some(place) => Some(place as u32 + 1),
             None => None,
         }
@@ -167,7 +199,7 @@ impl Ledger {
         self.fronts[page as usize - 1]
     }
 
-    // Whether an entry fills the slot, or reserves it for another transaction.
+    // Whether an entry fills the slot, or reserves it for another transaction. In the time of the directory's `blocks`, where it was used.
     fn is_blocked(&self, front: Front, page: u32, slot: u32, tx: TxNo) -> bool
         requires front { IsFront (entries_at self.now.directory) page front }
         requires few { page < 2 ^ 24 }
@@ -177,7 +209,8 @@ impl Ledger {
         slot <= u32::from(front.used) && self.directory.blocks(page * 256 + slot, tx)
     }
 
-    /// The first vacant slot of a page, of so many. Looks at the entries only for slots that were used and are not known to be filled.
+    /// The first vacant slot of a page, of so many. Constant time for a slot that was never used, and that of the directory's `blocks` for each
+    /// other one that is not known to be filled.
     pub(crate) fn vacant_slot(&self, page: u32, slots: u8, tx: TxNo) -> Option<u8>
         requires few { page < 2 ^ 24 }
         requires first { 1 ≤ page }
@@ -194,24 +227,51 @@ impl Ledger {
     }
 }
 
-// Marks a page where its first slots, up to one, are not all that its table's pages have; else notes how many there are.
-fn mark_page(room: &mut Marks, narrow: &mut Vec<u8>, page: u32, class: u32, slots: u8, last: u8)
+// Gives a page the mark of its table, where its first slots, up to one, are not all that the table's pages have, or nothing can be kept of
+// the table; else takes its mark away, and keeps how many slots there are. Logarithmic in the pages and the tables; takes no memory.
+fn mark_page(
+    room: &mut Marks,
+    narrow: &mut BTreeMap<TableNo, u8>,
+    page: u32,
+    table: TableNo,
+    slots: u8,
+    last: u8,
+)
     requires first { 1 ≤ page }
     requires last { page ≤ length room.old }
-    requires class { class < 63 }
-    requires classes { length narrow.old.items ≡ 63 }
-    ensures here { bit_at (slice_index room.new (page - 1)) class ≡ 0 → slice_index narrow.new.items class ≤ last }
+    ensures here { bit_at (slice_index room.new (page - 1)) (table % 63) ≡ 0 → narrow_of narrow.new table ≤ last }
     ensures others { (n : ℕ) → n ≢ page - 1 → slice_index room.new n ≡ slice_index room.old n }
-    ensures less { (m : ℕ) → slice_index narrow.new.items m ≤ slice_index narrow.old.items m }
+    ensures less { (t : ℕ) → narrow_of narrow.new t ≤ narrow_of narrow.old t }
     ensures size { length room.new ≡ length room.old }
-    ensures kept { length narrow.new.items ≡ 63 }
 {
-    if slots == 0 || last < slots {
-        room.set(page as usize - 1, 1 << class);
-        return;
+    if slots == 0 || last < slots || !narrows(narrow, table, slots) {
+        room.set(page as usize - 1, 1 << class_of(table));
+    } else {
+        room.set(page as usize - 1, 0);
     }
-    room.set(page as usize - 1, 0);
-    narrow[class as usize] = slots.min(narrow[class as usize]);
+}
+
+// Keeps so many slots for a table, where they are fewer than those that are kept for it. Answers whether anything can be kept of the table.
+// Logarithmic in the tables.
+fn narrows(narrow: &mut BTreeMap<TableNo, u8>, table: TableNo, slots: u8) -> bool
+    ensures here { IsTrue result → narrow_of narrow.new table ≤ slots }
+    ensures less { (t : ℕ) → narrow_of narrow.new t ≤ narrow_of narrow.old t }
+{
+    let Some(least) = narrow.get_mut(&table) else {
+        return false;
+    };
+    *least = slots.min(*least);
+    true
+}
+
+// How many slots are kept for a table: the fewest with which a page of it lost its mark. Logarithmic in the tables.
+fn narrow_of(narrow: &BTreeMap<TableNo, u8>, table: TableNo) -> u8
+    ensures { result ≡ narrow_of narrow.now table }
+{
+    match narrow.get(&table) {
+        None => WIDEST,
+        Some(least) => *least,
+    }
 }
 
 // The mark of a table's pages.

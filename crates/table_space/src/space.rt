@@ -132,7 +132,8 @@ impl TableSpace {
     }
 
     /// Keeps the name and the shape of a table, and makes an entry for its number in the catalogue, empty and without a row id.
-    /// Answers `Memory` only for want of memory, and all is as it was then. Logarithmic in the keys, amortised, and a copy of name and shape.
+    /// Answers `Memory` only for want of memory, and all is as it was then. Logarithmic in the keys and the tables, amortised, and a copy of name
+    /// and shape.
     pub fn enter_table(
         &mut self,
         table: TableNo,
@@ -151,6 +152,7 @@ impl TableSpace {
             shape: shape.copy(self.alloc)?,
         };
         self.tables.reserve(1)?;
+        self.ledger.enter_table(table)?;
         self.ledger.enter(CATALOGUE, &catalogue_key(table), tx)?;
         self.tables.insert(table, kept)?;
         Ok(())
@@ -168,8 +170,9 @@ impl TableSpace {
     }
 
     /// Fills or empties the key's entry with this row id, else fills one without a row id and gives it this one; the row's page is the
-    /// table's. Logarithmic in the keys and linear in the key's entries, and linear in all entries for each slot behind the row's that is filled
-    /// again with it, and one more; takes no memory.
+    /// table's. Logarithmic in the keys, the pages and the tables, and linear in the key's entries and in the slots that it finds filled from
+    /// the first on that was not known to be; only where several keys have such a slot or the next one at once, it may go through all entries.
+    /// Takes no memory.
     pub fn note(&mut self, table: TableNo, row: RowId, key: &Key, filled: bool, tx: TxNo)
         requires found { has_entry_for (row_number row.page row.slot) filled (entries_of self.old table key.now) ≡ true }
         requires alone { is_alone (row_number row.page row.slot) (entries_of self.old table key.now) ≡ true }
@@ -184,8 +187,19 @@ impl TableSpace {
         self.ledger.note(table, key, row, filled, tx, slots);
     }
 
-    /// Drops the empty entries of a transaction, and no others. Logarithmic in the keys for each key with an empty entry of a transaction whose
-    /// number is the same modulo 63; takes no memory.
+    /// Gives a page to a table; no entry changes. Logarithmic in the pages; takes no memory.
+    pub fn own(&mut self, table: TableNo, page: u32)
+        requires first { 1 ≤ page }
+        requires last { page ≤ pages_of self.old }
+        ensures owned { owners_of self.new ≡ slice_set (owners_of self.old) (page - 1) (Some table) }
+        ensures entries { IsSame (entries_of self.old) (entries_of self.new) }
+        ensures tables { IsSameTables self.old self.new }
+    {
+        self.ledger.own(table, page);
+    }
+
+    /// Drops the empty entries of a transaction, and no others. Logarithmic in the keys, and linear in the key's entries, for each key with an
+    /// empty entry of a transaction whose number is the same modulo 63; takes no memory.
     pub fn end_tx(&mut self, tx: TxNo)
         ensures ended { Ends (entries_of self.old) (entries_of self.new) tx }
         ensures owners { owners_of self.new ≡ owners_of self.old }

@@ -119,6 +119,32 @@ fn reserves_what_was_emptied(rt: HostRuntime) -> Result<(), Fail> {
     Ok(())
 }
 
+/// A page that is given to a table takes its rows, and those of no other.
+#[test]
+fn gives_a_page_to_a_table(rt: HostRuntime) -> Result<(), Fail> {
+    let mut space = space_with(rt.alloc(), 3, 100, 796, &rt)?;
+    assert!(rt; space.pages() >= 2);
+    space.own(100, 2);
+    assert_eq!(rt; place(&rt, &space, 100, 1)?.number(), 513);
+    assert_eq!(rt; place(&rt, &space, 1, 1)?.number(), 257);
+    Ok(())
+}
+
+/// A slot that three keys of one transaction have had is given to it, and to others only once it ended.
+#[test]
+fn gives_a_slot_that_several_keys_emptied(rt: HostRuntime) -> Result<(), Fail> {
+    let mut space = space_with(rt.alloc(), 3, 100, 796, &rt)?;
+    for key in 5..8u32 {
+        let held = insert(&rt, &mut space, 100, key, 1)?;
+        assert_eq!(rt; held.number(), 257);
+        note(&rt, &mut space, 100, held, key, false, 1);
+        assert_eq!(rt; place(&rt, &space, 100, 2)?.number(), 258);
+    }
+    space.end_tx(1);
+    assert_eq!(rt; place(&rt, &space, 100, 2)?.number(), 257);
+    Ok(())
+}
+
 /// A table is there from the moment when its row in the catalogue is filled, and not once it was rolled back.
 #[test]
 fn forgets_a_table_that_is_rolled_back(rt: HostRuntime) -> Result<(), Fail> {

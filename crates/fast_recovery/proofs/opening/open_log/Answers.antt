@@ -1,4 +1,4 @@
-use Rattle.std.proofs.Common.{◌≡◌, inr, ◌≤◌, ◌+◌, ◌*◌, ℕ, true, [], ◌++◌, Option, Some, None, arith, sym, subst, ap, ◌∙◌, refl}
+use Rattle.std.proofs.Common.{◌≡◌, inl, inr, ◌≤◌, ◌+◌, ◌*◌, ℕ, true, [], ◌++◌, Option, Some, None, arith, sym, subst, ap, ◌∙◌, refl}
 use Rattle.std.specs.FinMap.{empty}
 use Rattle.ids_outside.specs.Images.{Image}
 use Rattle.ids_outside.specs.Stops.{Only}
@@ -16,13 +16,14 @@ use Rattle.fast_recovery.specs.Paged.{IsPaged}
 use Rattle.fast_recovery.specs.PagedStates.{IsPagedState}
 use Rattle.fast_recovery.specs.LogRead.{AreUpTo, OpenCause}
 use Rattle.fast_recovery.specs.RowDamaged.{RowsFault}
-use Rattle.fast_recovery.specs.Opening.{files_from, WasFormatted, IsWant, ClosingFault, IsRefusal}
+use Rattle.fast_recovery.specs.Opening.{files_from, KeepsTables, WasFormatted, IsWant, ClosingFault, IsRefusal}
 use Rattle.fast_recovery.proofs.BlocksRead.{length-held}
 use Rattle.fast_recovery.proofs.Accepted.{accepted, want-accepted, closing-accepted}
 use Rattle.fast_recovery.proofs.Causes.{closing-cause, rows-cause, is-formatted}
 use Rattle.fast_recovery.proofs.Paging.{paged-closing}
-use Rattle.fast_recovery.proofs.Results.{err-goes-up, no-disk-fault, at-err}
-use Rattle.fast_recovery.proofs.Keeping.{is-since, read-tables, same-since, keeps-cleared}
+use Rattle.fast_recovery.proofs.Results.{err-goes-up, disk-fault, not-failed, at-err}
+use Rattle.fast_recovery.proofs.Keeping.{same-since, keeps-cleared}
+use Rattle.fast_recovery.proofs.Stopping.{each-since, stays-for, read-tables}
 use Rattle.fast_recovery.proofs.EmptyBase.{Laws}
 use Rattle.fast_recovery.proofs.SeenTables.{keeps-tables}
 use Rattle.fast_recovery.proofs.opening.open_log.Goals as goal
@@ -35,8 +36,8 @@ start_log-requires-clause-held g c = λ tells b from below.
 pub returns-in_err-layout-clause-any_moment : goal.returns-in_err-layout-clause-any_moment
 returns-in_err-layout-clause-any_moment g c =
     let d = g.D.Disk in let old = c.args.disk.now in let mid = c.read_disk.new.disk in
-    read-tables d.size d.now d.image d.can_leave d.left_at g.met.D.Disk.no_later g.met.D.Disk.only_now old mid _ c.read_disk.ensures.any_moment
-    (λ none. c.in_err-layout.ensures.behind (no-disk-fault c.from_residual.result c.in_err-layout.field-0.0 c.from_residual.ensures.1 none))
+    stays-for d.now d.image d.can_leave d.left_at old mid _ _ (disk-fault c.from_residual.result c.in_err-layout.field-0.0 c.from_residual.ensures.1)
+    (read-tables d.now d.image d.can_leave d.left_at g.met.D.Disk.no_later g.met.D.Disk.only_now old mid _ c.read_disk.ensures.any_moment c.in_err-layout.ensures.behind)
 
 pub returns-in_err-layout-clause-was_formatted : goal.returns-in_err-layout-clause-was_formatted
 returns-in_err-layout-clause-was_formatted g c =
@@ -48,8 +49,8 @@ returns-in_err-layout-clause-was_formatted g c =
 pub returns-in_err-note_end-clause-any_moment : goal.returns-in_err-note_end-clause-any_moment
 returns-in_err-note_end-clause-any_moment g c =
     let d = g.D.Disk in let old = c.args.disk.now in let mid = c.read_disk.new.disk in
-    read-tables d.size d.now d.image d.can_leave d.left_at g.met.D.Disk.no_later g.met.D.Disk.only_now old mid _ c.read_disk.ensures.any_moment
-    (λ none. c.in_ok-layout.ensures.behind (λ no. cc))
+    read-tables d.now d.image d.can_leave d.left_at g.met.D.Disk.no_later g.met.D.Disk.only_now old mid _ c.read_disk.ensures.any_moment
+    (inl (not-failed _ _ c.in_ok-layout.ensures.behind))
 
 pub returns-in_err-note_end-clause-was_formatted : goal.returns-in_err-note_end-clause-was_formatted
 returns-in_err-note_end-clause-was_formatted g c =
@@ -58,8 +59,8 @@ returns-in_err-note_end-clause-was_formatted g c =
 pub returns-in_err-found-clause-any_moment : goal.returns-in_err-found-clause-any_moment
 returns-in_err-found-clause-any_moment g c =
     let d = g.D.Disk in let old = c.args.disk.now in let mid = c.read_disk.new.disk in
-    read-tables d.size d.now d.image d.can_leave d.left_at g.met.D.Disk.no_later g.met.D.Disk.only_now old mid _ c.read_disk.ensures.any_moment
-    (λ none. c.in_ok-layout.ensures.behind (λ no. cc))
+    read-tables d.now d.image d.can_leave d.left_at g.met.D.Disk.no_later g.met.D.Disk.only_now old mid _ c.read_disk.ensures.any_moment
+    (inl (not-failed _ _ c.in_ok-layout.ensures.behind))
 
 pub returns-in_err-found-clause-was_formatted : goal.returns-in_err-found-clause-was_formatted
 returns-in_err-found-clause-was_formatted g c =
@@ -77,30 +78,32 @@ returns-in_err-found-clause-fault g c =
     (subst (λ (s : State). RowsFault s c.in_err-found.field-0.0) c.in_ok-note_end.ensures c.in_err-found.ensures.fault)))
 
 pub returns-in_err-files-clause-any_moment : goal.returns-in_err-files-clause-any_moment
-returns-in_err-files-clause-any_moment g c = λ room m y counted left.
+returns-in_err-files-clause-any_moment g c = λ room.
     let d = g.D.Disk in let old = c.args.disk.now in let base = d.image old in let l = c.in_ok-layout.layout in let p = c.in_ok-layout.past in
     let mid = c.read_disk.new.disk in let new = c.start_log.new.disk in let f = files_from l p.next in
+    each-since d.now d.image d.can_leave d.left_at old new _ (λ m y. KeepsTables base y) (λ m y since left.
     let laws : Laws = record { apart = c.apart.ensures.blocks; pages = c.same_pages.ensures.apart; newest = c.same_pages.ensures.newest } in
     let settled : Only base (d.can_leave mid) = subst (λ (w : Image). Only w (d.can_leave mid)) c.read_disk.ensures.same c.in_ok-layout.ensures.settled in
     let found = c.in_ok-layout.ensures.found (g.met.D.Disk.left_tells new m y left) in
-    let same = same-since d.size d.now d.image d.can_leave d.left_at g.met.D.Disk.no_later g.met.D.Disk.only_now old mid new f c.read_disk.ensures.any_moment (c.in_ok-layout.ensures.behind (λ no. cc)) settled
-    c.start_log.ensures.any_moment room m y (is-since d.now d.image d.can_leave old _ m counted) left in
+    let same = same-since d.size d.now d.image d.can_leave d.left_at g.met.D.Disk.no_later g.met.D.Disk.only_now old mid new f c.read_disk.ensures.any_moment (not-failed _ _ c.in_ok-layout.ensures.behind) settled
+    c.start_log.ensures.any_moment room m y since left in
     keeps-tables c.runs_join.ensures c.rollbacks_are_seen.ensures laws c.one_of_each.ensures.layout l f p.open_tx [] (closing p.open_tx) base y
-    refl refl found.layout found.read.after.order refl same
+    refl refl found.layout found.read.after.order refl same)
 
 pub returns-in_err-close_log-clause-any_moment : goal.returns-in_err-close_log-clause-any_moment
-returns-in_err-close_log-clause-any_moment g c = λ room m y counted left.
+returns-in_err-close_log-clause-any_moment g c = λ room.
     let d = g.D.Disk in let old = c.args.disk.now in let base = d.image old in let l = c.in_ok-layout.layout in let p = c.in_ok-layout.past in
     let mid = c.read_disk.new.disk in let start = c.start_log.new.disk in let new = c.close_log.new.disk in
+    each-since d.now d.image d.can_leave d.left_at old new _ (λ m y. KeepsTables base y) (λ m y since left.
     let laws : Laws = record { apart = c.apart.ensures.blocks; pages = c.same_pages.ensures.apart; newest = c.same_pages.ensures.newest } in
     let settled : Only base (d.can_leave mid) = subst (λ (w : Image). Only w (d.can_leave mid)) c.read_disk.ensures.same c.in_ok-layout.ensures.settled in
     let keeps = keeps-cleared d.size d.now d.image d.can_leave d.left_at g.met.D.Disk.no_later g.met.D.Disk.only_now old mid start l p.next c.in_ok-files.files c.in_ok-files.buffer m
-    c.in_ok-files.ensures.files c.in_ok-files.ensures.buffer c.in_ok-files.ensures.ready c.read_disk.ensures.any_moment (c.in_ok-layout.ensures.behind (λ no. cc)) settled c.start_log.ensures.any_moment
-    (is-since d.now d.image d.can_leave old _ m counted) in
+    c.in_ok-files.ensures.files c.in_ok-files.ensures.buffer c.in_ok-files.ensures.ready c.read_disk.ensures.any_moment (not-failed _ _ c.in_ok-layout.ensures.behind) settled c.start_log.ensures.any_moment
+    since in
     let found = c.in_ok-layout.ensures.found (g.met.D.Disk.left_tells new m y left) in
     let was = c.in_err-close_log.ensures.outlives m base (log_in l base) keeps room m y (let same : m ≤ m = omega arith in same) left in
     keeps-tables c.runs_join.ensures c.rollbacks_are_seen.ensures laws c.one_of_each.ensures.layout l c.in_ok-files.files p.open_tx was.front was.rest base y
-    (ap (λ (t : Files). t.region) c.in_ok-files.ensures.files) (ap (λ (t : Files). t.first) c.in_ok-files.ensures.files) found.layout found.read.after.order was.parts was.log
+    (ap (λ (t : Files). t.region) c.in_ok-files.ensures.files) (ap (λ (t : Files). t.first) c.in_ok-files.ensures.files) found.layout found.read.after.order was.parts was.log)
 
 pub returns-in_err-files-clause-was_formatted : goal.returns-in_err-files-clause-was_formatted
 returns-in_err-files-clause-was_formatted g c =
@@ -157,7 +160,7 @@ returns-clause-ready g c =
     let mid = c.read_disk.new.disk in let start = c.start_log.new.disk in
     let settled : Only base (d.can_leave mid) = subst (λ (w : Image). Only w (d.can_leave mid)) c.read_disk.ensures.same c.in_ok-layout.ensures.settled in
     let keeps = keeps-cleared d.size d.now d.image d.can_leave d.left_at g.met.D.Disk.no_later g.met.D.Disk.only_now old mid start l p.next c.in_ok-files.files c.in_ok-files.buffer (d.now old + 1)
-    c.in_ok-files.ensures.files c.in_ok-files.ensures.buffer c.in_ok-files.ensures.ready c.read_disk.ensures.any_moment (c.in_ok-layout.ensures.behind (λ no. cc)) settled c.start_log.ensures.any_moment (inr (omega arith)) in
+    c.in_ok-files.ensures.files c.in_ok-files.ensures.buffer c.in_ok-files.ensures.ready c.read_disk.ensures.any_moment (not-failed _ _ c.in_ok-layout.ensures.behind) settled c.start_log.ensures.any_moment (inr (omega arith)) in
     (c.in_ok-close_log.ensures.keeps (d.now old + 1) base (log_in l base) keeps).1.ready
 
 pub returns-clause-keeps : goal.returns-clause-keeps
@@ -168,7 +171,7 @@ returns-clause-keeps g c = λ tells since is.
     let settled : Only base (d.can_leave mid) = subst (λ (w : Image). Only w (d.can_leave mid)) c.read_disk.ensures.same c.in_ok-layout.ensures.settled in
     let kept = c.in_ok-close_log.ensures.keeps since base (log_in l base)
     (keeps-cleared d.size d.now d.image d.can_leave d.left_at g.met.D.Disk.no_later g.met.D.Disk.only_now old mid start l p.next c.in_ok-files.files c.in_ok-files.buffer since
-    c.in_ok-files.ensures.files c.in_ok-files.ensures.buffer c.in_ok-files.ensures.ready c.read_disk.ensures.any_moment (c.in_ok-layout.ensures.behind (λ no. cc)) settled c.start_log.ensures.any_moment is) in
+    c.in_ok-files.ensures.files c.in_ok-files.ensures.buffer c.in_ok-files.ensures.ready c.read_disk.ensures.any_moment (not-failed _ _ c.in_ok-layout.ensures.behind) settled c.start_log.ensures.any_moment is) in
     let found = c.in_ok-layout.ensures.found tells in let lay = c.in_ok-close_log.ensures.layout in
     record {
       last = p.open_tx;
@@ -178,21 +181,22 @@ returns-clause-keeps g c = λ tells since is.
     }
 
 pub returns-clause-any_moment : goal.returns-clause-any_moment
-returns-clause-any_moment g c = λ room m y counted left.
+returns-clause-any_moment g c = λ room.
     let d = g.D.Disk in let old = c.args.disk.now in let base = d.image old in let l = c.in_ok-layout.layout in let p = c.in_ok-layout.past in
     let mid = c.read_disk.new.disk in let start = c.start_log.new.disk in let new = c.close_log.new.disk in
     let o = c.close_log.new.opened in
+    each-since d.now d.image d.can_leave d.left_at old new _ (λ m y. KeepsTables base y) (λ m y since left.
     let laws : Laws = record { apart = c.apart.ensures.blocks; pages = c.same_pages.ensures.apart; newest = c.same_pages.ensures.newest } in
     let settled : Only base (d.can_leave mid) = subst (λ (w : Image). Only w (d.can_leave mid)) c.read_disk.ensures.same c.in_ok-layout.ensures.settled in
     let keeps = keeps-cleared d.size d.now d.image d.can_leave d.left_at g.met.D.Disk.no_later g.met.D.Disk.only_now old mid start l p.next c.in_ok-files.files c.in_ok-files.buffer m
-    c.in_ok-files.ensures.files c.in_ok-files.ensures.buffer c.in_ok-files.ensures.ready c.read_disk.ensures.any_moment (c.in_ok-layout.ensures.behind (λ no. cc)) settled c.start_log.ensures.any_moment
-    (is-since d.now d.image d.can_leave old _ m counted) in
+    c.in_ok-files.ensures.files c.in_ok-files.ensures.buffer c.in_ok-files.ensures.ready c.read_disk.ensures.any_moment (not-failed _ _ c.in_ok-layout.ensures.behind) settled c.start_log.ensures.any_moment
+    since in
     let found = c.in_ok-layout.ensures.found (g.met.D.Disk.left_tells new m y left) in
     let was = (c.in_ok-close_log.ensures.keeps m base (log_in l base) keeps).1.outlives room m y (let same : m ≤ m = omega arith in same) left in
     let files = c.in_ok-close_log.ensures.files in
     keeps-tables c.runs_join.ensures c.rollbacks_are_seen.ensures laws c.one_of_each.ensures.layout l o.files p.open_tx was.front was.rest base y
     (ap (λ (t : Files). t.region) files ∙ ap (λ (t : Files). t.region) c.in_ok-files.ensures.files)
-    (ap (λ (t : Files). t.first) files ∙ ap (λ (t : Files). t.first) c.in_ok-files.ensures.files) found.layout found.read.after.order was.parts was.log
+    (ap (λ (t : Files). t.first) files ∙ ap (λ (t : Files). t.first) c.in_ok-files.ensures.files) found.layout found.read.after.order was.parts was.log)
 
 pub returns-in_err-layout-clause-accepts : goal.returns-in_err-layout-clause-accepts
 returns-in_err-layout-clause-accepts g c =

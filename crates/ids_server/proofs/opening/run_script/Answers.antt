@@ -16,7 +16,7 @@ returns-in-Err-clause-ran g c = λ bytes is grammar.
       none,
       runs_nothing g.D.Disk.tells g.D.Disk.now g.D.Disk.image g.D.Disk.can_leave g.D.Disk.left_at c.served_at_start.ensures bytes none _ _ _ _ _ _ c.nothing.ensures.journal c.nothing.ensures.given
           (λ done. c.status_of.ensures.not_done (sym c.nothing.ensures.status ∙ done)) (λ _. grammar)
-          (λ sound same. sound (c.nothing.ensures.status ∙ c.status_of.ensures.disk.1 (let fault : c.in-Err.fault ≡ Disk = cc in fault))) c.in-Err.ensures.any_moment,
+          (λ failed. c.nothing.ensures.status ∙ c.status_of.ensures.disk.1 (let fault : c.in-Err.fault ≡ Disk = cc in fault)) c.in-Err.ensures.any_moment,
     )
 
 pub returns-clause-ran : goal.returns-clause-ran

@@ -6,6 +6,7 @@ use Rattle.std.proofs.lemmas.Fn.{filter_same}
 use Rattle.table_space.specs.declared.entry.Keyed.{Keyed}
 use Rattle.table_space.specs.Entries.{stays}
 use Rattle.table_space.proofs.EndingUnder.{IsUnnamed, indexed-ended, seen-ended, seen-beside, unnamed-none}
+use Rattle.table_space.proofs.Counts.{counts-ended}
 use Rattle.table_space.proofs.directory.Directory.end_under.Goals as goal
 
 pub invariant_of-self-2 : goal.invariant_of-self-2
@@ -17,7 +18,10 @@ invariant_of-self-2 c =
     let at : slice_get was.listed.items c.args.number ≡ Some old = slice_get_read was.listed.items (length was.listed.items) c.args.number old refl lt c.index_mut-keyed.ensures.value in
     let items : c.retain.new.self.items ≡ filter (stays c.args.tx) old.entries.items = filter_same _ (stays c.args.tx) _ (λ x r f' k. search rules) _ _ c.retain.ensures.filtered in
     let un : IsUnnamed was.numbers c.unname.new.numbers new c.args.number = record { others = c.unname.ensures.others; kept = c.unname.ensures.kept; gone = c.unname.ensures.gone; same = c.unname.ensures.same } in
-    record { indexed = rw c.set.ensures (indexed-ended was.numbers c.unname.new.numbers was.listed.items was.marks was.indexed c.args.number old new c.args.tx at lt refl refl items un c.marks_of-marks.result (rw c.as_slice.ensures.value at c.marks_of-marks.ensures)) }
+    record {
+      indexed = rw c.set.ensures (indexed-ended was.numbers c.unname.new.numbers was.listed.items was.marks was.indexed c.args.number old new c.args.tx at lt refl refl items un c.marks_of-marks.result (rw c.as_slice-2.ensures.value at c.marks_of-marks.ensures));
+      counted = counts-ended was.slots c.end.new.self was.listed.items c.args.number old new c.args.tx lt at was.counted items (rw c.as_slice.ensures.value at c.end.ensures);
+    }
 
 pub returns : goal.returns
 returns c =

@@ -6,6 +6,7 @@ use Rattle.table_space.specs.declared.entry.Entry.{Entry}
 use Rattle.table_space.specs.Numbers.{number_of, entries_in, entries_under}
 use Rattle.table_space.specs.Noted.{made}
 use Rattle.table_space.proofs.Indexing.{number-within, indexed-relist, indexed-same, changes-set, changes-same, push-some, always_err}
+use Rattle.table_space.proofs.Counts.{counts-same, counts-entered}
 use Rattle.table_space.proofs.directory.Directory.enter_under.Goals as goal
 
 pub invariant_of-self : goal.invariant_of-self
@@ -15,7 +16,10 @@ invariant_of-self c =
     let new : Keyed = record { table = old.table; key = old.key; entries = c.push.new.self } in
     let lt : c.args.number < length c.args.self.now.listed.items = number-within is c.args.table c.args.key.now c.args.number c.requires in
     let at : slice_get c.args.self.now.listed.items c.args.number ≡ Some old = slice_get_read c.args.self.now.listed.items (length c.args.self.now.listed.items) c.args.number old refl lt c.index_mut-keyed.ensures.value in
-    record { indexed = indexed-same is c.args.number old new c.args.table c.args.key.now c.requires at refl refl c.in_err-push.ensures.items }
+    record {
+      indexed = indexed-same is c.args.number old new c.args.table c.args.key.now c.requires at refl refl c.in_err-push.ensures.items;
+      counted = counts-same c.args.self.now.slots c.args.self.now.listed.items c.args.number old new lt at c.args.self.now.counted c.in_err-push.ensures.items;
+    }
 
 pub returns-in_err-push-clause-err : goal.returns-in_err-push-clause-err
 returns-in_err-push-clause-err c =
@@ -34,7 +38,11 @@ invariant_of-self-2 c =
     let lt : c.args.number < length c.args.self.now.listed.items = number-within is c.args.table c.args.key.now c.args.number c.requires in
     let at : slice_get c.args.self.now.listed.items c.args.number ≡ Some old = slice_get_read c.args.self.now.listed.items (length c.args.self.now.listed.items) c.args.number old refl lt c.index_mut-keyed.ensures.value in
     let some : c.push.new.self.items ≢ [] = λ none. push-some old.entries.items c.made.result (sym c.in_ok-push.ensures.items ∙ none) in
-    record { indexed = rw c.set.ensures (indexed-relist is c.args.number old new c.marks_of-marks.result c.args.table c.args.key.now c.requires at refl refl some (rw c.as_slice.ensures.value at c.marks_of-marks.ensures)) }
+    let more : c.push.new.self.items ≡ old.entries.items ++ made c.args.tx ∷ [] = c.in_ok-push.ensures.items ∙ ap (λ (e : Entry). old.entries.items ++ e ∷ []) c.made.ensures in
+    record {
+      indexed = rw c.set.ensures (indexed-relist is c.args.number old new c.marks_of-marks.result c.args.table c.args.key.now c.requires at refl refl some (rw c.as_slice.ensures.value at c.marks_of-marks.ensures));
+      counted = counts-entered c.args.self.now.slots c.args.self.now.listed.items c.args.number new old.entries.items c.args.tx lt (ap entries_in at) c.args.self.now.counted more;
+    }
 
 pub returns-clause-entered : goal.returns-clause-entered
 returns-clause-entered c =

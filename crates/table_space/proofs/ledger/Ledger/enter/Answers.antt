@@ -6,12 +6,12 @@ pub invariant_of-self : goal.invariant_of-self
 invariant_of-self c = (
   c.self.invariant.0,
   fronts-stay c.self.inside.fronts.items (same-stays c.in_err-enter.ensures.err) c.self.invariant.1,
-  rooms-stay c.self.inside.owners c.self.inside.room c.self.inside.narrow.items (same-stays c.in_err-enter.ensures.err) c.self.invariant.2,
+  rooms-stay c.self.inside.owners c.self.inside.room c.self.inside.narrow (same-stays c.in_err-enter.ensures.err) c.self.invariant.2,
 )
 
 pub invariant_of-self-2 : goal.invariant_of-self-2
 invariant_of-self-2 c = (
   c.self.invariant.0,
   fronts-stay c.self.inside.fronts.items (entered-stays c.args.tx c.in_ok-enter.ensures.entered) c.self.invariant.1,
-  rooms-stay c.self.inside.owners c.self.inside.room c.self.inside.narrow.items (entered-stays c.args.tx c.in_ok-enter.ensures.entered) c.self.invariant.2,
+  rooms-stay c.self.inside.owners c.self.inside.room c.self.inside.narrow (entered-stays c.args.tx c.in_ok-enter.ensures.entered) c.self.invariant.2,
 )

@@ -9,5 +9,5 @@ pub invariant_of-result : goal.invariant_of-result
 invariant_of-result c = (
   grind (arith, common_steps),
   fronts-new _ c.args.pages _ (c.in_ok-vec.ensures.items_if_clones_equal (λ y h. search rules)) refl c.in_ok-new.ensures,
-  rooms-new c.args.pages _ _ _ c.in_ok-new-2.ensures c.in_ok-new-3.ensures.room c.in_ok-new-3.ensures.none (search rules),
+  rooms-new c.args.pages _ _ _ c.in_ok-new-2.ensures c.in_ok-new-3.ensures.room c.in_ok-new-3.ensures.none,
 )

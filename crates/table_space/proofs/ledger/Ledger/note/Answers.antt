@@ -45,8 +45,8 @@ invariant_of-self c =
           (page-noted c.args.row.page c.args.row.slot c.front_of-front.result _ (omega arith)
           (row-stays c.args.row.page c.args.row.slot c.number.result c.number.ensures c.args.tx c.args.filled c.note.ensures)
           known last c.max-used.ensures),
-      rw c.set.ensures (rooms-noted c.self.inside.owners c.self.inside.room c.self.inside.narrow.items c.mark_page.new.room c.mark_page.new.narrow.items c.args.row.page c.args.row.slot c.args.table c.if-filled.last c.requires.first (omega (arith, same, c.requires.last)) (omega arith)
+      rw c.set.ensures (rooms-noted c.self.inside.owners c.self.inside.room c.mark_page.new.room c.self.inside.narrow c.mark_page.new.narrow c.args.row.page c.args.row.slot c.args.table c.if-filled.last c.requires.first (omega (arith, same, c.requires.last)) (omega arith)
           (row-stays c.args.row.page c.args.row.slot c.number.result c.number.ensures c.args.tx c.args.filled c.note.ensures)
           c.self.invariant.2 last
-          (rw c.class_of-class.ensures at c.mark_page.ensures.here) c.mark_page.ensures.others c.mark_page.ensures.less c.mark_page.ensures.size (c.mark_page.ensures.kept ∙ sym c.self.invariant.2.classes)),
+          c.mark_page.ensures.here c.mark_page.ensures.others c.mark_page.ensures.less c.mark_page.ensures.size),
     )
