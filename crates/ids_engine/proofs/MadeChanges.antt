@@ -4,13 +4,13 @@ use Rattle.ids_base.specs.declared.value.Value.{Value}
 use Rattle.ids_base.specs.declared.row_id.RowId.{RowId}
 use Rattle.ids_base.specs.RowIds.{row_number}
 use Rattle.ids_base.specs.Shapes.{row_length}
-use Rattle.log_records.specs.Entries.{Entry, Begin, Commit, Rollback, HInsert, HDelete, HUpdate, Ckpoint}
+use Rattle.log_records.specs.Entries.{Entry}
 use Rattle.log_records.specs.declared.record.Record.TheVariants as record_of
 use Rattle.ids_model.specs.declared.effect.Effect.{Effect}
 use Rattle.ids_model.specs.declared.effect.Effect.TheVariants.{NewTable, Change}
-use Rattle.ids_model.specs.Tables.{Row, Shape, Name, Tables}
+use Rattle.ids_model.specs.Tables.{Row, Shape, Name}
 use Rattle.ids_model.specs.Slots.{Bytes}
-use Rattle.ids_model.specs.Recovered.{State, run, AreOf}
+use Rattle.ids_model.specs.Recovered.{run}
 use Rattle.ids_model.specs.Stands.{catalogue, owner_of}
 use Rattle.ids_model.specs.Logged.{Makes}
 use Rattle.ids_model.proofs.Holding as holding
@@ -23,19 +23,6 @@ use Rattle.ids_engine.proofs.HeldAsks.{puts-row, takes-row, puts-table}
 -- the rows that a change leaves are those after its record
 pub moved : (new old : Held) (e : Entry) → new.pages ≡ old.pages → new.state ≡ run old.state (e ∷ []) → new ≡ held_after old e
 moved new old e pages state = λ i. record { pages = pages i; state = state i }
-
--- after a record of a transaction its changes still stand alone
-pub still-of : (s : State) (T : Tables) (tx : ℕ) (e : Entry) (f : Effect) → Makes s T tx e f → AreOf tx s.standing → AreOf tx (run s (e ∷ [])).standing
-still-of s T tx (HInsert by table slot after) (NewTable n shape) makes alone = (makes.0, alone)
-still-of s T tx (HInsert by table slot after) (Change n k was now) makes alone = (makes.0, alone)
-still-of s T tx (HDelete by table slot before) (Change n k was now) makes alone = (makes.0, alone)
-still-of s T tx (HUpdate by table slot before after) (Change n k was now) makes alone = (makes.0, alone)
-still-of s T tx (HDelete by table slot before) (NewTable n shape) makes alone = absurd makes
-still-of s T tx (HUpdate by table slot before after) (NewTable n shape) makes alone = absurd makes
-still-of s T tx (Begin by session) f makes alone = absurd makes
-still-of s T tx (Commit by) f makes alone = absurd makes
-still-of s T tx (Rollback by) f makes alone = absurd makes
-still-of s T tx (Ckpoint named) f makes alone = absurd makes
 
 module _ (h : Held) (greatest : ℕ) (by table : ℕ) (at : RowId) (bytes : Bytes) where
   abbrev slot : ℕ

@@ -23,10 +23,3 @@ pub use held_rows::HeldRows;
 pub use init::{InitPlan, init_disk};
 pub use pages::Pages;
 pub use store::{Changed, Store, StoreFault};
-
-#[cfg(test)]
-mod pages_tests;
-#[cfg(test)]
-mod store_tests;
-#[cfg(test)]
-mod tests;

@@ -4,6 +4,8 @@
 //! a script run in a session, opening, and the server. The theorem of the product is the contract of `server::server`.
 #![tactic(auto)]
 
+#[cfg(test)]
+mod disk_tests;
 pub mod laws;
 mod opening;
 pub mod printer;

@@ -1,9 +1,9 @@
 //! Runs of random statements over one disk, opened again between them, beside a plain model of one table.
 
-use crate::server::{Ended, server};
+use crate::stop_tests::run;
 use ids_base::status::Status;
 use ids_engine::{InitPlan, init_disk};
-use ids_outside::{MemDisk, MemSink, MemSource, OpenGate};
+use ids_outside::MemDisk;
 use std::alloc::Global;
 use std::test::Fail;
 
@@ -126,21 +126,12 @@ impl Lines {
     }
 }
 
-// Runs a script over a disk.
-fn run(alloc: Global, disk: MemDisk, script: &str) -> Result<Ended<MemDisk, MemSink>, Fail> {
-    let mut words = Vec::new(alloc);
-    words.push(String::from_str(alloc, "run")?)?;
-    let mut source = MemSource::new(script.as_bytes().to_vec(alloc)?, Vec::new(alloc));
-    let sink = MemSink::new(alloc, Vec::new(alloc));
-    Ok(server(alloc, words.as_slice(), &mut source, disk, sink, &OpenGate))
-}
-
 #[test]
 fn random_statements_beside_a_plain_model(rt: HostRuntime) -> Result<(), Fail> {
     let alloc = rt.alloc();
     let mut disk = MemDisk::new(alloc, &[], Vec::new(alloc))?;
     assert!(rt; init_disk(&mut disk, &InitPlan::defaults()).is_ok());
-    let created = run(alloc, disk, "CREATE TABLE t (k INTEGER, v INTEGER)")?;
+    let created = run(alloc, disk, b"CREATE TABLE t (k INTEGER, v INTEGER)")?;
     disk = created.disk;
     let mut plain = Plain {
         rows: [None; KEYS],
@@ -157,7 +148,7 @@ fn random_statements_beside_a_plain_model(rt: HostRuntime) -> Result<(), Fail> {
             draw = next_draw(draw);
             lines.add_drawn(alloc, &mut plain, draw / 65536)?;
         }
-        let ended = run(alloc, disk, &lines.script)?;
+        let ended = run(alloc, disk, lines.script.as_bytes())?;
         assert_eq!(rt; ended.status, Status::Done);
         assert_eq!(rt; ended.out.taken(), lines.text.as_bytes());
         disk = ended.disk;

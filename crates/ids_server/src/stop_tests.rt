@@ -40,8 +40,8 @@ fn formatted(alloc: Global, data_pages: u32) -> Result<MemDisk, Fail>
     }
 }
 
-// Runs a script over a disk.
-fn run(alloc: Global, disk: MemDisk, script: &[u8]) -> Result<Run, Fail> {
+/// Runs a script over a disk.
+pub(crate) fn run(alloc: Global, disk: MemDisk, script: &[u8]) -> Result<Run, Fail> {
     let mut words = Vec::new(alloc);
     words.push(String::from_str(alloc, "run")?)?;
     let mut source = MemSource::new(script.to_vec(alloc)?, Vec::new(alloc));
