@@ -5,7 +5,6 @@ pub mod CatalogueWhole
 pub mod EntriesInOrder
 pub mod GoodShapes
 pub mod Greatest
-pub mod KeysFound
 pub mod Made
 pub mod OneTransaction
 pub mod Options

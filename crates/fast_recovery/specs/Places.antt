@@ -1,5 +1,5 @@
 -- Where a new row goes, among the pages 1 to a last one.
-use Rattle.std.specs.Prelude.{◌≡◌, ◌≢◌, ℕ, ◌≤◌, ◌<◌, Some, None}
+use Rattle.std.specs.Prelude.{◌≡◌, ℕ, ◌≤◌, Some, None}
 use Rattle.std.proofs.Common.{◌⊎◌}
 use Rattle.ids_base.specs.RowIds.{row_number, slot_count}
 use Rattle.ids_model.specs.Slots.{own_at, slot_at}
@@ -44,14 +44,3 @@ IsPlaceFor s owner pages page slot = IsLeastVacant s owner pages page slot ⊎ I
 pub record HasNoPlace (s : State) (owner : ℕ × ℕ) (pages : ℕ) : Type 0 where
   pub full : HasNoVacant s owner pages
   pub owned : (page : ℕ) → ¬ IsUnowned s pages page
-
--- the slots of a page from 1 up to below one hold rows
-abbrev pub AreFilled : State → ℕ → ℕ → Type 0
-AreFilled s page below = (slot : ℕ) → 1 ≤ slot → slot < below → slot_at s.slots (row_number page slot) ≢ None
-
--- the first empty slot of a page with so many
-pub record IsFirstVacant (s : State) (page slots slot : ℕ) : Type 0 where
-  pub low : 1 ≤ slot
-  pub high : slot ≤ slots
-  pub vacant : slot_at s.slots (row_number page slot) ≡ None
-  pub before : AreFilled s page slot

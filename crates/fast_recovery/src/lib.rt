@@ -1,9 +1,8 @@
 //! Fast recovery: what the records of the log make of pages and rows.
 //!
 //! Read in this order: the parts, which are the owners of pages, the rows in slots and the standing changes; the replay of a
-//! log, which has all three; where a new row goes, and where the row with a key stands; the tables that pages and rows stand
-//! for, which are found by the rows of the catalogue first and the other rows after them; and opening, which replays the log
-//! of a disk, where each record is in order and in its place.
+//! log, which has all three; the tables that pages and rows stand for, which are found by the rows of the catalogue first and
+//! the other rows after them; and opening, which replays the log of a disk, where each record is in order and in its place.
 #![tactic(auto)]
 
 mod catalogue;
@@ -11,7 +10,6 @@ mod catalogue;
 mod damage_tests;
 mod fault;
 mod in_place;
-pub mod keys;
 pub mod laws;
 mod names;
 mod numbers;
@@ -21,7 +19,6 @@ mod opening_tests;
 pub mod owner;
 mod owners;
 mod past;
-pub mod places;
 pub mod replay;
 mod roll_forward;
 mod rows;

@@ -1,10 +1,10 @@
 //! A log, record by record.
-ghost use Rattle.std.specs.Prelude.{◌≡◌, ◌↔◌, [], ◌∷◌, length, IfOk, OnOk, IsTrue, IfSome, IfNone, ℕ, ◌≢◌, ◌≤◌, ◌⊎◌, is_some, option_copied};
+ghost use Rattle.std.specs.Prelude.{◌≡◌, ◌↔◌, [], ◌∷◌, IfOk, OnOk, IsTrue, option_copied};
 ghost use Rattle.ids_base.specs.RowIds.{row_number};
 ghost use Rattle.log_records.specs.Says.{entry_of};
 ghost use Rattle.log_records.specs.Entries as says;
 ghost use Rattle.ids_model.specs.Slots.{own_at, slot_at, set_slot, assign};
-ghost use Rattle.ids_model.specs.Recovered.{nothing, run, seen, AreOf, of_tx, others, all_taken_back, deleted, updated};
+ghost use Rattle.ids_model.specs.Recovered.{nothing, run, seen, of_tx, others, all_taken_back, deleted, updated};
 ghost use Rattle.fast_recovery.specs.Changed.{changed};
 
 use crate::owner::Owner;
@@ -106,30 +106,6 @@ impl Replay {
         ensures { IsTrue result ↔ ¬ (self.now.standing ≡ []) }
     {
         !self.standing.is_empty()
-    }
-
-    /// The transaction that all standing changes are of; `None` where none stands, or where changes of several do. Linear.
-    pub fn only_open(&self) -> Option<TxNo>
-        ensures some { IfSome result (λ tx. AreOf tx self.now.standing × (self.now.standing ≢ [])) }
-        ensures none { IfNone result ((tx : ℕ) → AreOf tx self.now.standing → self.now.standing ≡ []) }
-    {
-        self.standing.only()
-    }
-
-    /// The greatest number of a table that owns a page, and 99 where that is less. Linear in the pages.
-    pub fn greatest_table(&self) -> TableNo
-        ensures least { 99 ≤ result }
-        ensures owners { (page : ℕ) (owner : ℕ × ℕ) → own_at self.now.own page ≡ Some owner → owner.0 ≤ result }
-        ensures is_one { (result ≡ 99) ⊎ ((page : ℕ) × (length : ℕ) × (own_at self.now.own page ≡ Some (result, length))) }
-    {
-        self.owners.greatest_table()
-    }
-
-    // Whether a slot holds a row.
-    pub(crate) fn holds(&self, slot: u32) -> bool
-        ensures { result ≡ is_some (slot_at self.now.slots slot) }
-    {
-        self.slots.holds(slot)
     }
 
     // Where it takes memory.

@@ -1,5 +1,5 @@
 //! The rows in slots.
-ghost use Rattle.std.specs.Prelude.{◌≡◌, OnOk, option_copied, is_some};
+ghost use Rattle.std.specs.Prelude.{◌≡◌, OnOk, option_copied};
 ghost use Rattle.std.specs.FinMap.{empty, entries};
 ghost use Rattle.ids_model.specs.Slots.{slot_at, set_slot};
 
@@ -46,13 +46,6 @@ impl FilledSlots {
             None => None,
             Some(row) => Some(row.bytes()),
         }
-    }
-
-    /// Whether a slot holds a row, in logarithmic time.
-    pub fn holds(&self, slot: u32) -> bool
-        ensures { result ≡ is_some (slot_at self.now slot) }
-    {
-        self.rows.contains_key(&slot)
     }
 
     /// All rows, with their row ids and by row id.

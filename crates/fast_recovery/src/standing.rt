@@ -1,6 +1,5 @@
 //! The changes of open transactions.
-ghost use Rattle.std.specs.Prelude.{◌≡◌, ◌↔◌, [], ◌∷◌, OnOk, MatchOption, IsTrue, IfSome, IfNone, MatchBool, ℕ, ◌≢◌};
-ghost use Rattle.ids_model.specs.Recovered.{AreOf};
+ghost use Rattle.std.specs.Prelude.{◌≡◌, ◌↔◌, [], ◌∷◌, OnOk, MatchOption, IsTrue};
 
 use ids_base::memory::Memory;
 use ids_base::numbers::TxNo;
@@ -84,27 +83,4 @@ impl Standing {
     {
         self.changes.pop()
     }
-
-    /// The transaction that all changes are of; `None` where there is no change, or where there are changes of several.
-    /// Linear.
-    pub fn only(&self) -> Option<TxNo>
-        ensures some { IfSome result (λ tx. AreOf tx self.now × (self.now ≢ [])) }
-        ensures none { IfNone result ((tx : ℕ) → AreOf tx self.now → self.now ≡ []) }
-    {
-        let changes = self.changes.as_slice();
-        let tx = changes.first()?.tx;
-        if are_of(tx, changes) { Some(tx) } else { None }
-    }
-}
-
-// Whether all changes are of the transaction.
-fn are_of(tx: TxNo, changes: &[Change]) -> bool
-    ensures { MatchBool result (AreOf tx changes.now) (¬ AreOf tx changes.now) }
-{
-    for change in changes {
-        if change.tx != tx {
-            return false;
-        }
-    }
-    true
 }
