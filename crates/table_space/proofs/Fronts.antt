@@ -77,7 +77,7 @@ no_row-blocks row Nowhere b none = refl
 no_row-blocks row (Emptied held) b none = rw none refl
 no_row-blocks row (Filled held) b none = rw none refl
 
-pub changed-other : (row other : ℕ) (filled : Bool) (tx : ℕ) → other ≢ row → has_row other (changed row filled tx) ≡ false
+changed-other : (row other : ℕ) (filled : Bool) (tx : ℕ) → other ≢ row → has_row other (changed row filled tx) ≡ false
 changed-other row other true tx ne = ne_eqb row other (λ e. ne (sym e))
 changed-other row other false tx ne = ne_eqb row other (λ e. ne (sym e))
 

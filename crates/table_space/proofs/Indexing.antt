@@ -51,7 +51,7 @@ slot-there (x ∷ ls) zero lt = (x, refl)
 slot-there (x ∷ ls) (suc n) lt = slot-there ls n (omega arith)
 
 -- a test that some entries pass
-pub any-slot : (p : Entry → Bool) (ls : List Keyed) → list_any (λ l. list_any p l.entries.items) ls ≡ true → (n : ℕ) × (l : Keyed) × (slice_get ls n ≡ Some l) × (list_any p l.entries.items ≡ true)
+any-slot : (p : Entry → Bool) (ls : List Keyed) → list_any (λ l. list_any p l.entries.items) ls ≡ true → (n : ℕ) × (l : Keyed) × (slice_get ls n ≡ Some l) × (list_any p l.entries.items ≡ true)
 any-slot p [] h = absurd (cc)
 any-slot p (x ∷ ls) h = at (list_any p x.entries.items) refl h (any-slot p ls)
   where
@@ -65,7 +65,7 @@ or_right : (a b : Bool) → b ≡ true → (a || b) ≡ true
 or_right true b e = refl
 or_right false b e = e
 
-pub slot-any : (p : Entry → Bool) (ls : List Keyed) (n : ℕ) → list_any p (entries_in (slice_get ls n)) ≡ true → list_any (λ l. list_any p l.entries.items) ls ≡ true
+slot-any : (p : Entry → Bool) (ls : List Keyed) (n : ℕ) → list_any p (entries_in (slice_get ls n)) ≡ true → list_any (λ l. list_any p l.entries.items) ls ≡ true
 slot-any p [] n h = absurd (cc)
 slot-any p (x ∷ ls) zero h = rw h refl
 slot-any p (x ∷ ls) (suc n) h = or_right (list_any p x.entries.items) _ (slot-any p ls n h)

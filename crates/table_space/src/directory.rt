@@ -9,7 +9,7 @@ ghost use Rattle.table_space.specs.Indexed.{IsIndexed};
 ghost use Rattle.table_space.specs.Numbers.{number_of, entries_in, entries_under};
 ghost use Rattle.table_space.specs.Noted.{row_of, made, noted, has_entry_for, is_alone};
 ghost use Rattle.table_space.specs.Seen.{Changes, IsSame, Ends, IsBlocked};
-ghost use Rattle.table_space.specs.Slots.{AreCounts, HasAllAt};
+ghost use Rattle.table_space.specs.Slots.{AreCounts};
 
 use crate::entries;
 use crate::entries::FREE;
@@ -26,7 +26,7 @@ use std::collections::BTreeMap;
 /// The entries of all keys. Contracts see the entries of each table and key.
 ///
 /// Each key that has entries has a number, under which they stand in `listed`; `marks` finds the numbers of entries that go with a
-/// transaction, and those that are free; `slots` counts the entries that have a slot, and tells which number was last noted there.
+/// transaction, and those that are free; `slots` counts the entries that fill a slot and those that reserve it.
 #[derive(Drop)]
 pub struct Directory {
     numbers: BTreeMap<(TableNo, Key), usize>,
@@ -209,11 +209,11 @@ impl Directory {
         match self.number(table, key) {
             Some(number) => {
                 let keyed = &mut self.listed[number];
-                let more = !entries::some_with_row(keyed.entries.as_slice(), row);
-                entries::note(&mut keyed.entries, row, filled, tx);
+                let was = entries::note(&mut keyed.entries, row, filled, tx);
                 let marks = entries::marks_of(keyed.entries.as_slice());
                 self.marks.set(number, marks);
-                self.slots.note(row, number, more);
+                self.slots.leave(&was);
+                self.slots.take(&entries::changed(row, filled, tx));
             }
             None => unreachable!(),
         }
@@ -263,58 +263,24 @@ impl Directory {
         last
     }
 
-    // Whether an entry fills the slot. Constant time where no entry has it, else linear in the entries of the key that was last noted there;
-    // linear in all entries where several keys have the slot and that one does not fill it.
+    // Whether an entry fills the slot. Constant time; where those that do are no longer counted, linear in all entries.
     fn fills(&self, row: u32) -> bool
         ensures { IsTrue result ↔ IsFilled (entries_at self.now) row }
     {
-        match self.known(row) {
-            Some(entries) => entries::some_fill(entries, row),
-            None => {
-                entries::some_fill(self.under(self.slots.key(row)), row)
-                    || filled(&self.listed, row)
-            }
+        match self.slots.at(row).fills() {
+            Some(known) => known,
+            None => filled(&self.listed, row),
         }
     }
 
-    /// Whether an entry fills the slot, or reserves it for a transaction other than this one. Constant time where no entry has it, else linear in
-    /// the entries of the key that was last noted there; linear in all entries where several keys have the slot and that one does neither.
+    /// Whether an entry fills the slot, or reserves it for a transaction other than this one. Constant time; where those that do are no longer
+    /// counted, linear in all entries.
     pub(crate) fn blocks(&self, row: u32, tx: TxNo) -> bool
         ensures { IsTrue result ↔ IsBlocked (entries_at self.now) row tx }
     {
-        match self.known(row) {
-            Some(entries) => entries::some_block(entries, row, tx),
-            None => {
-                entries::some_block(self.under(self.slots.key(row)), row, tx)
-                    || blocked(&self.listed, row, tx)
-            }
-        }
-    }
-
-    // Entries among which are all that have the slot, where its count tells: none, or those of the key that was last noted there. Linear in
-    // the entries of that key.
-    fn known(&self, row: u32) -> Option<&[Entry]>
-        ensures { IfSome result (λ entries. HasAllAt self.now.listed.items row entries.now) }
-    {
-        let count = self.slots.count(row);
-        if count == 0 {
-            return Some(&[]);
-        }
-        let last = self.under(self.slots.key(row));
-        if count == 1 && entries::some_with_row(last, row) {
-            Some(last)
-        } else {
-            None
-        }
-    }
-
-    // The entries under a number, where there are any.
-    fn under(&self, number: usize) -> &[Entry]
-        ensures { result.now ≡ entries_in (slice_get self.now.listed.items number) }
-    {
-        match self.listed.get(number) {
-            None => &[],
-            Some(keyed) => keyed.entries.as_slice(),
+        match self.slots.at(row).blocks(tx) {
+            Some(known) => known,
+            None => blocked(&self.listed, row, tx),
         }
     }
 }

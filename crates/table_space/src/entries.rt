@@ -1,11 +1,12 @@
 //! The entries of one key, in the order in which they were made.
-ghost use Rattle.std.specs.Prelude.{◌≡◌, ◌&&◌, true, ℕ, ◌%◌};
+ghost use Rattle.std.specs.Prelude.{◌≡◌, ◌&&◌, ◌<◌, true, ℕ, ◌%◌, length, slice_set};
 ghost use Rattle.std.specs.Prelude.{position};
 ghost use Rattle.std.specs.List.{list_any};
 ghost use Rattle.std.specs.Int.{bit_at};
 ghost use Rattle.table_space.specs.Entries.{has_row, is_new, blocks, fills};
 ghost use Rattle.table_space.specs.Noted.{row_of, made, changed, noted, has_entry_for, is_alone};
 ghost use Rattle.table_space.specs.Indexed.{AreMarks, goes};
+ghost use Rattle.table_space.specs.Slots.{IsExchanged};
 
 use crate::entry::{Entry, Held};
 use ids_base::numbers::TxNo;
@@ -23,8 +24,8 @@ pub(crate) fn made(tx: TxNo) -> Entry
     }
 }
 
-// An entry with this row id that a transaction filled or emptied.
-fn changed(row: u32, filled: bool, tx: TxNo) -> Entry
+/// An entry with this row id that a transaction filled or emptied.
+pub(crate) fn changed(row: u32, filled: bool, tx: TxNo) -> Entry
     ensures { result ≡ changed row filled tx }
 {
     let held = if filled {
@@ -61,8 +62,8 @@ fn without_row(entries: &[Entry]) -> Option<usize>
     entries.iter().position(|entry| entry.is_new())
 }
 
-/// Whether an entry has this row id. Linear.
-pub(crate) fn some_with_row(entries: &[Entry], row: u32) -> bool
+// Whether an entry has this row id.
+fn some_with_row(entries: &[Entry], row: u32) -> bool
     ensures { result ≡ list_any (has_row row) entries.now }
 {
     entries.iter().any(|entry| entry.has_row(row))
@@ -97,19 +98,31 @@ pub(crate) fn is_alone(entries: &[Entry], row: u32) -> bool
     true
 }
 
-/// The entry with this row id, else one without a row id, gets the row id and is filled or emptied. Linear.
-pub(crate) fn note(entries: &mut [Entry], row: u32, filled: bool, tx: TxNo)
+/// The entry with this row id, else one without a row id, gets the row id and is filled or emptied. Answers the entry as it was. Linear.
+pub(crate) fn note(entries: &mut [Entry], row: u32, filled: bool, tx: TxNo) -> Entry
     requires { has_entry_for row filled entries.old ≡ true }
-    ensures { entries.new ≡ noted row filled tx entries.old }
+    ensures noted { entries.new ≡ noted row filled tx entries.old }
+    ensures was { IsExchanged entries.old entries.new result (changed row filled tx) }
 {
     let entry = changed(row, filled, tx);
     match with_row(entries, row) {
-        Some(at) => entries[at] = entry,
+        Some(at) => replace(entries, at, entry),
         None => match without_row(entries) {
-            Some(at) => entries[at] = entry,
+            Some(at) => replace(entries, at, entry),
             None => unreachable!(),
         },
     }
+}
+
+// Another entry in place of the one that is answered.
+fn replace(entries: &mut [Entry], at: usize, entry: Entry) -> Entry
+    requires { at < length entries.old }
+    ensures set { entries.new ≡ slice_set entries.old at entry }
+    ensures was { IsExchanged entries.old entries.new result entry }
+{
+    let was = entries[at];
+    entries[at] = entry;
+    was
 }
 
 // The marks, with that of a transaction where an entry goes with it.

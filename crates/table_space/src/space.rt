@@ -171,8 +171,8 @@ impl TableSpace {
 
     /// Fills or empties the key's entry with this row id, else fills one without a row id and gives it this one; the row's page is the
     /// table's. Logarithmic in the keys, the pages and the tables, and linear in the key's entries and in the slots that it finds filled from
-    /// the first on that was not known to be; only where several keys have such a slot or the next one at once, it may go through all entries.
-    /// Takes no memory.
+    /// the first on that was not known to be; for one of these and the next whose entries are no longer counted, linear in all entries. Takes
+    /// no memory.
     pub fn note(&mut self, table: TableNo, row: RowId, key: &Key, filled: bool, tx: TxNo)
         requires found { has_entry_for (row_number row.page row.slot) filled (entries_of self.old table key.now) ≡ true }
         requires alone { is_alone (row_number row.page row.slot) (entries_of self.old table key.now) ≡ true }

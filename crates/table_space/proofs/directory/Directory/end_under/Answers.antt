@@ -20,7 +20,7 @@ invariant_of-self-2 c =
     let un : IsUnnamed was.numbers c.unname.new.numbers new c.args.number = record { others = c.unname.ensures.others; kept = c.unname.ensures.kept; gone = c.unname.ensures.gone; same = c.unname.ensures.same } in
     record {
       indexed = rw c.set.ensures (indexed-ended was.numbers c.unname.new.numbers was.listed.items was.marks was.indexed c.args.number old new c.args.tx at lt refl refl items un c.marks_of-marks.result (rw c.as_slice-2.ensures.value at c.marks_of-marks.ensures));
-      counted = counts-ended was.slots c.end.new.self was.listed.items c.args.number old new c.args.tx lt at was.counted items (rw c.as_slice.ensures.value at c.end.ensures);
+      counted = counts-ended was.slots was.listed.items c.args.number new lt was.counted c.end.new.self old c.args.tx at items (rw c.as_slice.ensures.value at c.end.ensures);
     }
 
 pub returns : goal.returns

@@ -13,7 +13,7 @@ invariant_of-self-2 c =
     let only : c.push.new.self.items ≡ made c.args.tx ∷ [] = c.in_ok-push.ensures.items ∙ ap (λ (es : List Entry). es ++ c.made.result ∷ []) c.new-entries.ensures.items ∙ ap (λ (e : Entry). e ∷ []) c.made.ensures in
     record {
       indexed = rw c.set.ensures (indexed-first c.args.self.now.indexed c.insert.new.self c.args.number new c.marks_of-marks.result c.requires.there c.requires.free c.requires.unnamed c.in_ok-insert.ensures.updates.0 c.in_ok-insert.ensures.updates.1 some (rw c.as_slice.ensures.value at c.marks_of-marks.ensures));
-      counted = counts-entered c.args.self.now.slots c.args.self.now.listed.items c.args.number new [] c.args.tx c.requires.there c.requires.free c.args.self.now.counted only;
+      counted = counts-entered c.args.self.now.slots c.args.self.now.listed.items c.args.number new c.requires.there c.args.self.now.counted [] c.args.tx c.requires.free only;
     }
 
 pub returns-clause-entered : goal.returns-clause-entered

@@ -18,7 +18,7 @@ invariant_of-self c =
     let at : slice_get c.args.self.now.listed.items c.args.number ≡ Some old = slice_get_read c.args.self.now.listed.items (length c.args.self.now.listed.items) c.args.number old refl lt c.index_mut-keyed.ensures.value in
     record {
       indexed = indexed-same is c.args.number old new c.args.table c.args.key.now c.requires at refl refl c.in_err-push.ensures.items;
-      counted = counts-same c.args.self.now.slots c.args.self.now.listed.items c.args.number old new lt at c.args.self.now.counted c.in_err-push.ensures.items;
+      counted = counts-same c.args.self.now.slots c.args.self.now.listed.items c.args.number new lt c.args.self.now.counted old at c.in_err-push.ensures.items;
     }
 
 pub returns-in_err-push-clause-err : goal.returns-in_err-push-clause-err
@@ -41,7 +41,7 @@ invariant_of-self-2 c =
     let more : c.push.new.self.items ≡ old.entries.items ++ made c.args.tx ∷ [] = c.in_ok-push.ensures.items ∙ ap (λ (e : Entry). old.entries.items ++ e ∷ []) c.made.ensures in
     record {
       indexed = rw c.set.ensures (indexed-relist is c.args.number old new c.marks_of-marks.result c.args.table c.args.key.now c.requires at refl refl some (rw c.as_slice.ensures.value at c.marks_of-marks.ensures));
-      counted = counts-entered c.args.self.now.slots c.args.self.now.listed.items c.args.number new old.entries.items c.args.tx lt (ap entries_in at) c.args.self.now.counted more;
+      counted = counts-entered c.args.self.now.slots c.args.self.now.listed.items c.args.number new lt c.args.self.now.counted old.entries.items c.args.tx (ap entries_in at) more;
     }
 
 pub returns-clause-entered : goal.returns-clause-entered
