@@ -12,3 +12,4 @@ pub mod MarkTrees
 pub mod Rooms
 pub mod Counting
 pub mod Counts
+pub mod Owned
