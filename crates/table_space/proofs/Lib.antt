@@ -13,3 +13,4 @@ pub mod Rooms
 pub mod Counting
 pub mod Counts
 pub mod Telling
+pub mod Owned

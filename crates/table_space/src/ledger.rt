@@ -93,12 +93,13 @@ impl Ledger {
         &self.owners
     }
 
-    /// Makes room for what `note` keeps of a table, unless there is. Answers `Memory` only for want of memory, and all is as it was then.
-    /// Logarithmic in the tables.
+    /// Makes room for what `note` keeps of a table, and for the count of its pages, unless there is. Answers `Memory` only for want of memory,
+    /// and all is as it was then. In the time of the owners' `enter_table`.
     pub(crate) fn enter_table(&mut self, table: TableNo) -> Result<(), Memory>
         ensures directory { self.new.directory ≡ self.old.directory }
         ensures owners { self.new.owners ≡ self.old.owners }
     {
+        self.owners.enter_table(table)?;
         if !self.narrow.contains_key(&table) {
             self.narrow.insert(table, WIDEST)?;
         }
@@ -160,7 +161,7 @@ impl Ledger {
         );
     }
 
-    /// Gives a page to a table, and takes it for one that may have a vacant slot. Logarithmic in the pages; takes no memory.
+    /// Gives a page to a table, and takes it for one that may have a vacant slot. Logarithmic in the pages and the tables; takes no memory.
     pub(crate) fn own(&mut self, table: TableNo, page: u32)
         requires first { 1 ≤ page }
         requires last { page ≤ length self.old.owners }

@@ -133,7 +133,7 @@ impl TableSpace {
 
     /// Keeps the name and the shape of a table, and makes an entry for its number in the catalogue, empty and without a row id.
     /// Answers `Memory` only for want of memory, and all is as it was then. Logarithmic in the keys and the tables, amortised, and a copy of name
-    /// and shape.
+    /// and shape; where the table is new, and a page is owned by a table that was not entered, also linear in the pages.
     pub fn enter_table(
         &mut self,
         table: TableNo,
@@ -187,7 +187,7 @@ impl TableSpace {
         self.ledger.note(table, key, row, filled, tx, slots);
     }
 
-    /// Gives a page to a table; no entry changes. Logarithmic in the pages; takes no memory.
+    /// Gives a page to a table; no entry changes. Logarithmic in the pages and the tables; takes no memory.
     pub fn own(&mut self, table: TableNo, page: u32)
         requires first { 1 ≤ page }
         requires last { page ≤ pages_of self.old }
