@@ -1,7 +1,6 @@
 -- What is known of slots, where the entries under one number change.
-use Rattle.std.proofs.Common.{◌≡◌, ℕ, zero, suc, ◌+◌, ◌-◌, ◌<◌, ◌≤◌, Bool, refl, ap, sym, ◌∙◌, subst, List, [], ◌∷◌, ◌++◌, length, set, Option, Some, arith, inl, inr}
+use Rattle.std.proofs.Common.{◌≡◌, ℕ, zero, suc, ◌+◌, ◌-◌, ◌<◌, ◌≤◌, Bool, ap, sym, ◌∙◌, subst, List, [], ◌∷◌, ◌++◌, length, set, Option, Some, arith}
 use Rattle.std.specs.List.{slice_get, filter, count_by, fold}
-use Rattle.std.proofs.lemmas.Bool.{cases_lt}
 use Rattle.std.proofs.lemmas.List.Sums.{sum_by-cons, sum_by_push}
 use Rattle.table_space.specs.declared.entry.Entry.{Entry}
 use Rattle.table_space.specs.declared.entry.Keyed.{Keyed}
@@ -9,7 +8,7 @@ use Rattle.table_space.specs.declared.slot.Slot.{Slot}
 use Rattle.table_space.specs.Entries.{stays}
 use Rattle.table_space.specs.Noted.{made}
 use Rattle.table_space.specs.Numbers.{entries_in}
-use Rattle.table_space.specs.Slots.{Counts, slot_at, fresh, unknown, taken, left, ended, one, how_many, IsExchanged, IsCounted, AreCounts}
+use Rattle.table_space.specs.Slots.{Counts, slot_at, taken, left, ended, one, how_many, IsExchanged, IsCounted, AreCounts}
 use Rattle.table_space.proofs.Counting.{counted-as, counted-taken, counted-left, counted-ended, count-push}
 
 -- the entries under a number, and under the others

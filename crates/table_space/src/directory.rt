@@ -1,5 +1,5 @@
 //! The directory of keys.
-ghost use Rattle.std.specs.Prelude.{◌≡◌, ◌≢◌, ◌&&◌, ◌++◌, ◌∷◌, ◌<◌, ◌≤◌, ◌^◌, [], ◌↔◌, ℕ, true, None, Some, IfOk, IfSome, OnOk, OnErr, IsTrue, IsSome, length};
+ghost use Rattle.std.specs.Prelude.{◌≡◌, ◌≢◌, ◌&&◌, ◌++◌, ◌∷◌, ◌<◌, ◌≤◌, ◌^◌, [], ◌↔◌, ℕ, true, None, Some, IfOk, OnOk, OnErr, IsTrue, IsSome, length};
 ghost use Rattle.std.specs.List.{list_any, slice_get, filter};
 ghost use Rattle.ids_base.specs.declared.lock.Key.{Key as TheKey};
 ghost use Rattle.table_space.specs.Entries.{has_row, is_new, blocks, fills, stays};

@@ -1,6 +1,6 @@
 //! What is known of a slot without a look at the entries.
 ghost use Rattle.std.specs.Prelude.{◌≡◌};
-ghost use Rattle.table_space.specs.Slots.{one_more, one_less, filled_more, filled_less, emptied_more, emptied_less, known_fills, known_blocks};
+ghost use Rattle.table_space.specs.Slots.{one_less, filled_more, filled_less, emptied_more, emptied_less, known_fills, known_blocks};
 
 use ids_base::numbers::TxNo;
 

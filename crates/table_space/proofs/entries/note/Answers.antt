@@ -1,5 +1,4 @@
-use Rattle.std.proofs.Common.{sym, ap, ◌∙◌}
-use Rattle.std.specs.Prelude.{slice_set}
+use Rattle.std.proofs.Common.{sym, ◌∙◌}
 use Rattle.table_space.proofs.Noted.{noted-row, noted-new, noted-nowhere}
 use Rattle.table_space.proofs.entries.note.Goals as goal
 

@@ -1,4 +1,4 @@
-use Rattle.std.proofs.Common.{◌≡◌, Bool, cond, remove, arith}
+use Rattle.std.proofs.Common.{Bool, cond, remove, arith}
 use Rattle.std.proofs.lemmas.List.Sums.{sum_by-set, sum_by-remove}
 use Rattle.table_space.specs.declared.entry.Entry.{Entry}
 use Rattle.table_space.specs.declared.entry.Held.TheVariants.{Nowhere}

@@ -1,4 +1,4 @@
-use Rattle.std.proofs.Common.{◌≡◌, ◌≢◌, ◌<◌, [], length, ap, sym, ◌∙◌, refl, true, false, not, Some, arith}
+use Rattle.std.proofs.Common.{◌≡◌, ◌≢◌, ◌<◌, [], length, ap, sym, ◌∙◌, refl, Some, arith}
 use Rattle.std.specs.Vec.{with_items}
 use Rattle.std.specs.List.{slice_get}
 use Rattle.std.proofs.lemmas.List.{with_items_is}
