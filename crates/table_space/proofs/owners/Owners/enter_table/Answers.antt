@@ -1,7 +1,7 @@
-use Rattle.std.proofs.Common.{◌≡◌, ◌≤◌, ◌+◌, ◌-◌, None, sym, ◌∙◌, arith, rules}
+use Rattle.std.proofs.Common.{◌≡◌, ◌≤◌, None, sym, ◌∙◌, arith, rules}
 use Rattle.std.proofs.lemmas.Grind.{common_steps}
 use Rattle.std.specs.List.{count_by}
-use Rattle.table_space.specs.Owners.{is_own, count_of, is_uncounted}
+use Rattle.table_space.specs.Owners.{is_own, count_of}
 use Rattle.table_space.proofs.Owned.{uncounted-own, uncounted-entered, uncounted-same, counted-entered}
 use Rattle.table_space.proofs.owners.Owners.enter_table.Goals as goal
 

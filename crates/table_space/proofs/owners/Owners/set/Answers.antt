@@ -1,5 +1,4 @@
-use Rattle.std.proofs.Common.{◌≡◌, ◌<◌, ◌-◌, ap, sym, ◌∙◌, arith, rules, length}
-use Rattle.table_space.specs.Owners.{moved}
+use Rattle.std.proofs.Common.{◌<◌, ◌-◌, ap, ◌∙◌, arith, rules, length}
 use Rattle.table_space.proofs.Owned.{counted-set, uncounted-set}
 use Rattle.table_space.proofs.owners.Owners.set.Goals as goal
 
