@@ -13,6 +13,4 @@ pub mod recovery_laws;
 pub mod rows;
 pub mod table;
 pub mod tables;
-#[cfg(test)]
-mod tests;
 pub mod undo;

@@ -115,6 +115,53 @@ fn refused_statements(rt: HostRuntime) -> Result<(), Fail> {
 }
 
 #[test]
+fn shapes_of_tables(rt: HostRuntime) -> Result<(), Fail> {
+    gives(
+        &rt,
+        rt.alloc(),
+        b"CREATE TABLE t (k CHAR(0))\nCREATE TABLE t (k CHAR(33))\nCREATE TABLE t (k INTEGER, k INTEGER)\nCREATE TABLE t (k INTEGER, c CHAR(0))\nCREATE TABLE t (k INTEGER, c CHAR(797))",
+        b"1.1 error bad shape\n1.2 error bad shape\n1.3 error bad shape\n1.4 error bad shape\n1.5 error bad shape\n",
+        5,
+    )?;
+    gives(
+        &rt,
+        rt.alloc(),
+        b"CREATE TABLE t (a INTEGER, b INTEGER, c INTEGER, d INTEGER, e INTEGER, f INTEGER, g INTEGER, h INTEGER, i INTEGER, j INTEGER, k INTEGER, l INTEGER, m INTEGER, n INTEGER, o INTEGER, p INTEGER, q INTEGER)\nCREATE TABLE t (k INTEGER, c CHAR(796))\nCREATE TABLE u (k CHAR(32), c CHAR(1))",
+        b"1.1 error bad shape\n1.2 created\n1.3 created\n",
+        3,
+    )
+}
+
+#[test]
+fn shapes_of_rows_and_conditions(rt: HostRuntime) -> Result<(), Fail> {
+    gives(
+        &rt,
+        rt.alloc(),
+        b"CREATE TABLE t (k INTEGER, c CHAR(2))\nINSERT INTO t VALUES (7)\nINSERT INTO t VALUES (7, 'a', 1)\nINSERT INTO t VALUES (7, 7)\nINSERT INTO t VALUES ('7', 'a')\nINSERT INTO t VALUES (7, 'abc')\nINSERT INTO t VALUES (7, 'ab   ')",
+        b"1.1 created\n1.2 error bad shape\n1.3 error bad shape\n1.4 error bad shape\n1.5 error bad shape\n1.6 error bad shape\n1.7 rows 1\n",
+        7,
+    )?;
+    gives(
+        &rt,
+        rt.alloc(),
+        b"CREATE TABLE t (k INTEGER, c CHAR(2))\nSELECT * FROM t WHERE z = 7\nSELECT * FROM t WHERE k = '7'\nSELECT * FROM t WHERE c = 7\nSELECT * FROM t WHERE c = 'abc'\nSELECT * FROM t WHERE c = 'ab'\nDELETE FROM t WHERE z = 4\nDELETE FROM u WHERE k = 4\nINSERT INTO u VALUES (4)",
+        b"1.1 created\n1.2 error bad shape\n1.3 error bad shape\n1.4 error bad shape\n1.5 error bad shape\n1.6 rows 0\n1.7 error bad shape\n1.8 error no table\n1.9 error no table\n",
+        9,
+    )
+}
+
+#[test]
+fn rows_in_the_order_of_their_keys(rt: HostRuntime) -> Result<(), Fail> {
+    gives(
+        &rt,
+        rt.alloc(),
+        b"CREATE TABLE t (k INTEGER, v INTEGER)\nINSERT INTO t VALUES (3, 1)\nINSERT INTO t VALUES (-5, 1)\nINSERT INTO t VALUES (2147483647, 1)\nINSERT INTO t VALUES (0, 1)\nINSERT INTO t VALUES (-2147483647, 1)\nSELECT * FROM t WHERE v = 1",
+        b"1.1 created\n1.2 rows 1\n1.3 rows 1\n1.4 rows 1\n1.5 rows 1\n1.6 rows 1\n1.7 -2147483647|1|\n1.7 -5|1|\n1.7 0|1|\n1.7 3|1|\n1.7 2147483647|1|\n1.7 rows 5\n",
+        7,
+    )
+}
+
+#[test]
 fn values_as_they_are_printed(rt: HostRuntime) -> Result<(), Fail> {
     gives(
         &rt,
