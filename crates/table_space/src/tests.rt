@@ -26,6 +26,27 @@ fn shape(alloc: Global, size: u16) -> Result<Shape, Fail> {
     Ok(columns.share(alloc)?)
 }
 
+// The calls below say nothing of what they did: each test looks.
+
+// So many pages, and no tables.
+fn space_of(rt: &impl Abort, alloc: Global, pages: u32) -> Result<TableSpace, Fail> {
+    assert!(rt; pages < 16777216);
+    Ok(TableSpace::new(alloc, pages)?)
+}
+
+// A table of a name whose rows have four bytes and so many more.
+fn enter_table(
+    alloc: Global,
+    space: &mut TableSpace,
+    table: TableNo,
+    text: &[u8],
+    size: u16,
+) -> Result<(), Fail> {
+    let name = Name::new(text).ok_or("a name")?;
+    space.enter_table(table, &name, &shape(alloc, size)?, 1)?;
+    Ok(())
+}
+
 // A space of so many pages, with a table whose rows have four bytes and so many more.
 fn space_with(
     alloc: Global,
@@ -34,11 +55,29 @@ fn space_with(
     size: u16,
     rt: &impl Abort,
 ) -> Result<TableSpace, Fail> {
-    assert!(rt; pages < 16777216);
-    let mut space = TableSpace::new(alloc, pages)?;
-    let name = Name::new(b"parts").ok_or("a name")?;
-    space.enter_table(table, &name, &shape(alloc, size)?, 1)?;
+    let mut space = space_of(rt, alloc, pages)?;
+    enter_table(alloc, &mut space, table, b"parts", size)?;
     Ok(space)
+}
+
+// An entry more of a key.
+fn enter(space: &mut TableSpace, table: TableNo, key: u32, tx: TxNo) -> Result<(), Memory> {
+    space.enter_key(table, &catalogue_key(key), tx)
+}
+
+// The row id of a key.
+fn found(space: &TableSpace, table: TableNo, key: u32) -> Option<RowId> {
+    space.find(table, &catalogue_key(key))
+}
+
+// A transaction ends.
+fn end(space: &mut TableSpace, tx: TxNo) {
+    space.end_tx(tx);
+}
+
+// The table of a name.
+fn named(space: &TableSpace, text: &[u8]) -> Option<TableNo> {
+    space.table_named(&Name::new(text)?)
 }
 
 fn place(rt: &impl Abort, space: &TableSpace, table: TableNo, tx: TxNo) -> Result<RowId, NoSpace> {
@@ -71,7 +110,7 @@ fn insert(
     tx: TxNo,
 ) -> Result<RowId, Fail> {
     let row = place(rt, space, table, tx)?;
-    space.enter_key(table, &catalogue_key(key), tx)?;
+    enter(space, table, key, tx)?;
     note(rt, space, table, row, key, true, tx);
     Ok(row)
 }
@@ -100,22 +139,21 @@ fn tells_of_no_space(rt: HostRuntime) -> Result<(), Fail> {
 #[test]
 fn reserves_what_was_emptied(rt: HostRuntime) -> Result<(), Fail> {
     let mut space = space_with(rt.alloc(), 3, 100, 796, &rt)?;
-    let key = catalogue_key(7);
     let first = insert(&rt, &mut space, 100, 7, 1)?;
-    space.end_tx(1);
+    end(&mut space, 1);
     note(&rt, &mut space, 100, first, 7, false, 2);
-    assert!(rt; space.find(100, &key).is_none());
+    assert!(rt; found(&space, 100, 7).is_none());
     assert_eq!(rt; place(&rt, &space, 100, 2)?.number(), 257);
     assert_eq!(rt; place(&rt, &space, 100, 3)?.number(), 258);
     assert_eq!(rt; place(&rt, &space, 100, 0)?.number(), 258);
     note(&rt, &mut space, 100, first, 7, true, 2);
-    assert_eq!(rt; space.find(100, &key).map(|row| row.number()), Some(257));
+    assert_eq!(rt; found(&space, 100, 7).map(|row| row.number()), Some(257));
     note(&rt, &mut space, 100, first, 7, false, 2);
-    space.end_tx(3);
+    end(&mut space, 3);
     assert_eq!(rt; place(&rt, &space, 100, 3)?.number(), 258);
-    space.end_tx(2);
+    end(&mut space, 2);
     assert_eq!(rt; place(&rt, &space, 100, 3)?.number(), 257);
-    assert!(rt; !space.may_note(100, first, &key, true));
+    assert!(rt; !space.may_note(100, first, &catalogue_key(7), true));
     Ok(())
 }
 
@@ -140,7 +178,7 @@ fn gives_a_slot_that_several_keys_emptied(rt: HostRuntime) -> Result<(), Fail> {
         note(&rt, &mut space, 100, held, key, false, 1);
         assert_eq!(rt; place(&rt, &space, 100, 2)?.number(), 258);
     }
-    space.end_tx(1);
+    end(&mut space, 1);
     assert_eq!(rt; place(&rt, &space, 100, 2)?.number(), 257);
     Ok(())
 }
@@ -149,15 +187,14 @@ fn gives_a_slot_that_several_keys_emptied(rt: HostRuntime) -> Result<(), Fail> {
 #[test]
 fn forgets_a_table_that_is_rolled_back(rt: HostRuntime) -> Result<(), Fail> {
     let mut space = space_with(rt.alloc(), 3, 100, 8, &rt)?;
-    let name = Name::new(b"parts").ok_or("a name")?;
-    assert_eq!(rt; space.table_named(&name), None);
+    assert_eq!(rt; named(&space, b"parts"), None);
     let first = place(&rt, &space, 1, 1)?;
     note(&rt, &mut space, 1, first, 100, true, 1);
-    assert_eq!(rt; space.table_named(&name), Some(100));
+    assert_eq!(rt; named(&space, b"parts"), Some(100));
     note(&rt, &mut space, 1, first, 100, false, 1);
-    assert_eq!(rt; space.table_named(&name), None);
-    space.end_tx(1);
-    assert_eq!(rt; space.table_named(&name), None);
+    assert_eq!(rt; named(&space, b"parts"), None);
+    end(&mut space, 1);
+    assert_eq!(rt; named(&space, b"parts"), None);
     assert_eq!(rt; place(&rt, &space, 1, 2)?.number(), 257);
     Ok(())
 }
@@ -234,7 +271,7 @@ fn adds(
     if plain_row(plain, table, key).is_some() {
         return Ok(());
     }
-    space.enter_key(table, &catalogue_key(key), tx)?;
+    enter(space, table, key, tx)?;
     plain.push(Plain {
         table,
         key,
@@ -270,33 +307,46 @@ fn marks(
     owners[page] = table;
 }
 
+// The next draw of a generator with 31 bits.
+fn next_draw(draw: u32) -> u32 {
+    draw.wrapping_mul(1103515245).wrapping_add(12345) % 2147483648
+}
+
+// A call as a draw says.
+fn step(
+    rt: &impl Abort,
+    space: &mut TableSpace,
+    plain: &mut Vec<Plain>,
+    owners: &mut [TableNo],
+    number: u32,
+) -> Result<(), Memory> {
+    let wanted = (100 + number % 2, number / 2 % 9, u64::from(number / 18 % 3));
+    let (table, key, tx) = wanted;
+    let held = found(space, table, key);
+    assert_eq!(rt; held.map(|row| row.number()), plain_row(plain, table, key));
+    match (number / 54 % 5, held) {
+        (0 | 1, _) => adds(rt, space, plain, owners, wanted)?,
+        (2 | 3, Some(row)) => marks(rt, space, plain, owners, wanted, row, false),
+        (4, _) => {
+            end(space, tx);
+            plain.retain(|entry| entry.filled || entry.tx != tx);
+        }
+        _ => {}
+    }
+    Ok(())
+}
+
 /// A thousand calls beside a plain list.
 #[test]
 fn agrees_with_a_plain_list(rt: HostRuntime) -> Result<(), Fail> {
     let mut space = space_with(rt.alloc(), 6, 100, 796, &rt)?;
-    let name = Name::new(b"more").ok_or("a name")?;
-    space.enter_table(101, &name, &shape(rt.alloc(), 796)?, 9)?;
+    enter_table(rt.alloc(), &mut space, 101, b"more", 796)?;
     let mut plain: Vec<Plain> = Vec::new(rt.alloc());
     let mut owners = [0; 6];
     let mut draw = 12345u32;
     for _ in 0..1000 {
-        draw = draw.wrapping_mul(1103515245).wrapping_add(12345) % 2147483648;
-        let number = draw / 65536;
-        let wanted = (100 + number % 2, number / 2 % 9, u64::from(number / 18 % 3));
-        let (table, key, tx) = wanted;
-        let held = space.find(table, &catalogue_key(key));
-        assert_eq!(rt; held.map(|row| row.number()), plain_row(&plain, table, key));
-        match (number / 54 % 5, held) {
-            (0 | 1, _) => adds(&rt, &mut space, &mut plain, &mut owners, wanted)?,
-            (2 | 3, Some(row)) => {
-                marks(&rt, &mut space, &mut plain, &mut owners, wanted, row, false);
-            }
-            (4, _) => {
-                space.end_tx(tx);
-                plain.retain(|entry| entry.filled || entry.tx != tx);
-            }
-            _ => {}
-        }
+        draw = next_draw(draw);
+        step(&rt, &mut space, &mut plain, &mut owners, draw / 65536)?;
     }
     Ok(())
 }
