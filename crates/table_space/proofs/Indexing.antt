@@ -168,16 +168,6 @@ module _ {numbers : Numbers} {ls : List Keyed} {marks : List ℕ} (is : IsIndexe
         rw (get_or-set_other marks (length ls) j m 0 apart) (is.beyond j (omega (arith, past, length-append ls (l ∷ []))));
   }
 
-  -- the same marks on more numbers
-  pub indexed-longer : (more : List ℕ) → length marks ≤ length more → ((n : ℕ) → slice_index more n ≡ slice_index marks n) → IsIndexed numbers ls more
-  indexed-longer more longer same = record {
-    room = omega (arith, longer, is.room);
-    here = is.here;
-    named = is.named;
-    marked = λ n l at. rw (same n) (is.marked n l at);
-    beyond = λ n past. rw (same n) (is.beyond n past);
-  }
-
   -- what the entries under a number are seen as
   pub seen-same : (now : Numbers) (n : ℕ) (l : Keyed) (t : ℕ) (k : Key) → n < length ls → number_of now t k ≡ Some n → entries_under (set ls n l) (number_of now t k) ≡ l.entries.items
   seen-same now n l t k lt e = ap (entries_under (set ls n l)) e ∙ ap entries_in (slot-same ls n l lt)

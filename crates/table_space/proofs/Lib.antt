@@ -9,7 +9,7 @@ pub mod Named
 pub mod Fronts
 pub mod Alone
 pub mod MarkTrees
-pub mod Rooms
+pub mod FullPages
 pub mod Counting
 pub mod Counts
 pub mod Telling

@@ -9,6 +9,7 @@ pub mod Marks
 pub mod Noted
 pub mod Numbers
 pub mod Owners
+pub mod PageMarks
 pub mod Places
 pub mod Rooms
 pub mod Seen

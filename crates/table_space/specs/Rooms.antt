@@ -1,25 +1,31 @@
--- Which pages of a table are known to be full, by marks over the pages.
-use Rattle.std.specs.Prelude.{◌≡◌, ℕ, ◌-◌, ◌%◌, ◌≤◌, ◌<◌, List, Option, Some, None, length, slice_index, slice_index_or}
-use Rattle.std.specs.Int.{bit_at}
-use Rattle.std.specs.Ordering.{nat_cmp}
-use Rattle.std.specs.BTreeMap as tree
-use Rattle.std.specs.BTreeMap.{BTreeMap}
+-- Which pages of a table are known to be full.
+use Rattle.std.specs.Prelude.{◌≡◌, ℕ, ◌-◌, ◌/◌, ◌%◌, ◌≤◌, ◌<◌, List, Option, Some, None, length, slice_index_or}
+use Rattle.table_space.specs.declared.rooms.Rooms.{Rooms}
 use Rattle.table_space.specs.Fronts.{AreFilled}
+use Rattle.table_space.specs.PageMarks.{marks_in, narrow_of, filled_in}
 use Rattle.table_space.specs.Seen.{Entries}
 
--- how many slots are kept for a table, 255 where none are
-abbrev pub narrow_in : Option ℕ → ℕ
-narrow_in None = 255
-narrow_in (Some n) = n
+-- how many slots of a page, from 1 on, are known to be filled if the page is the table's
+abbrev pub known_filled : Rooms → ℕ → ℕ → ℕ
+known_filled rooms table page = filled_in (marks_in rooms.marks (table / 64)) (table % 64) (page - 1) (narrow_of rooms.narrow table)
 
-abbrev pub narrow_of : BTreeMap ℕ ℕ → ℕ → ℕ
-narrow_of narrow t = narrow_in (tree.get nat_cmp narrow t)
+-- that many are known of the pages from one up to below another
+abbrev pub AreKnown : Rooms → ℕ → ℕ → ℕ → ℕ → Type 0
+AreKnown rooms table slots from to = (p : ℕ) → from ≤ p → p < to → slots ≤ known_filled rooms table p
 
--- pages that lack the mark of their table, modulo 63, have their first slots filled, as many as is kept for the table
-pub record AreRooms (entries : Entries) (os : List (Option ℕ)) (marks : List ℕ) (narrow : BTreeMap ℕ ℕ) : Type 0 where
-  pub room : length os ≤ length marks
-  pub full : (p t : ℕ) → 1 ≤ p → p ≤ length os → slice_index_or os (p - 1) None ≡ Some t → bit_at (slice_index marks (p - 1)) (t % 63) ≡ 0 → AreFilled entries p (narrow_of narrow t)
-  pub beyond : (n : ℕ) → length os ≤ n → slice_index marks n ≡ 0
+-- a page before which, from one on, that many are known of all pages
+pub record IsNextRoom (rooms : Rooms) (table slots from page : ℕ) : Type 0 where
+  pub low : from ≤ page
+  pub high : page ≤ rooms.pages
+  pub before : AreKnown rooms table slots from page
+
+-- what is known of the pages of tables is so
+abbrev pub AreRooms : Entries → List (Option ℕ) → Rooms → Type 0
+AreRooms entries os rooms = (p t : ℕ) → 1 ≤ p → p ≤ length os → slice_index_or os (p - 1) None ≡ Some t → AreFilled entries p (known_filled rooms t p)
+
+-- no more is known of such pages than before
+abbrev pub AreNoMore : List (Option ℕ) → Rooms → Rooms → Type 0
+AreNoMore os was now = (p t : ℕ) → 1 ≤ p → p ≤ length os → slice_index_or os (p - 1) None ≡ Some t → known_filled now t p ≤ known_filled was t p
 
 -- the table's pages from one up to below another have so many slots filled
 abbrev pub AreFull : Entries → List (Option ℕ) → ℕ → ℕ → ℕ → ℕ → Type 0

@@ -1,12 +1,12 @@
 //! The directory of keys.
-ghost use Rattle.std.specs.Prelude.{◌≡◌, ◌≢◌, ◌&&◌, ◌++◌, ◌∷◌, ◌<◌, ◌≤◌, ◌^◌, [], ◌↔◌, ℕ, true, None, Some, IfOk, OnOk, OnErr, IsTrue, IsSome, length};
-ghost use Rattle.std.specs.List.{list_any, slice_get, filter};
+ghost use Rattle.std.specs.Prelude.{◌≡◌, ◌≢◌, ◌&&◌, ◌++◌, ◌∷◌, ◌<◌, ◌≤◌, ◌^◌, [], ◌↔◌, ℕ, true, None, Some, IfOk, OnOk, OnErr, IsTrue, length};
+ghost use Rattle.std.specs.List.{list_any, slice_get};
 ghost use Rattle.ids_base.specs.declared.lock.Key.{Key as TheKey};
-ghost use Rattle.table_space.specs.Entries.{has_row, is_new, blocks, fills, stays};
+ghost use Rattle.table_space.specs.Entries.{blocks, fills, stays};
 ghost use Rattle.ids_base.specs.RowIds.{row_number};
 ghost use Rattle.table_space.specs.Fronts.{AreFilled, IsFilled};
 ghost use Rattle.table_space.specs.Indexed.{IsIndexed};
-ghost use Rattle.table_space.specs.Numbers.{number_of, entries_in, entries_under};
+ghost use Rattle.table_space.specs.Numbers.{number_of, entries_in};
 ghost use Rattle.table_space.specs.Noted.{row_of, made, noted, has_entry_for, is_alone};
 ghost use Rattle.table_space.specs.Seen.{Changes, IsSame, Ends, IsBlocked};
 ghost use Rattle.table_space.specs.Slots.{AreCounts};

@@ -1,42 +1,34 @@
 //! The directory and the owners of pages, with what is known of the slots of each page.
 ghost use Rattle.std.specs.Prelude.{◌≡◌, ◌≤◌, ◌<◌, ◌+◌, ◌-◌, ◌%◌, ◌^◌, ◌∷◌, ◌++◌, [], ◌↔◌, ℕ, None, Some, true, IsTrue, IfOk, OnOk, OnErr, MatchOption, length, replicate, slice_set};
-ghost use Rattle.std.specs.Prelude.{◌≢◌, slice_index};
-ghost use Rattle.std.specs.Int.{bit_at};
 ghost use Rattle.ids_base.specs.RowIds.{row_number};
 ghost use Rattle.ids_base.specs.declared.lock.Key.{Key as TheKey};
 ghost use Rattle.table_space.specs.Directory.{entries_at};
 ghost use Rattle.table_space.specs.Noted.{made, noted, has_entry_for};
 ghost use Rattle.table_space.specs.Seen.{Changes, IsSame, Ends, AreBlocked, IsBlocked, IsFirstVacant};
 ghost use Rattle.table_space.specs.Fronts.{IsFront};
-ghost use Rattle.table_space.specs.Rooms.{AreFull, IsNextPage, narrow_of};
+ghost use Rattle.table_space.specs.Rooms.{AreFull, IsNextPage};
 
 use crate::catalogue::CATALOGUE;
 use crate::directory::Directory;
 use crate::front::Front;
-use crate::marks::Marks;
 use crate::owners::Owners;
+use crate::rooms::Rooms;
 use ids_base::lock::Key;
 use ids_base::memory::Memory;
 use ids_base::numbers::{TableNo, TxNo};
 use ids_base::row_id::RowId;
 use std::alloc::Global;
-use std::collections::BTreeMap;
 use std::marker::Model;
 
-// No page has more slots.
-const WIDEST: u8 = 255;
-
-/// The entries of all keys and the owners of all pages, with a front for each page. Contracts see the directory and the owners.
-///
-/// `room` marks the pages that are not known to be full, each with the mark of its table; `narrow` has for each table the fewest slots with
-/// which a page of it lost its mark.
+/// The entries of all keys and the owners of all pages, with a front for each page, and the pages of each table that are not known to be full.
+/// Contracts see the directory and the owners.
 #[derive(Drop)]
 pub struct Ledger {
     directory: Directory,
     owners: Owners,
     fronts: Vec<Front>,
-    room: Marks,
-    narrow: BTreeMap<TableNo, u8>,
+    rooms: Rooms,
+    alloc: Global,
 }
 
 impl Model for Ledger {
@@ -57,7 +49,7 @@ impl Model for Ledger {
 
     ghost view = { λ a. record { directory = a.directory; owners = a.owners } };
 
-    ghost invariant = { λ a. (length a.fronts.items ≡ length a.owners) × AreFronts (entries_at a.directory) a.fronts.items × AreRooms (entries_at a.directory) a.owners a.room a.narrow };
+    ghost invariant = { λ a. (length a.fronts.items ≡ length a.owners) × (a.rooms.pages ≡ length a.owners) × AreFronts (entries_at a.directory) a.fronts.items × AreRooms (entries_at a.directory) a.owners a.rooms };
 }
 
 impl Ledger {
@@ -68,14 +60,15 @@ impl Ledger {
         ensures entries { IfOk result (λ ledger. (t : ℕ) (k : TheKey) → entries_at ledger.directory t k ≡ []) }
     {
         let front = Front { filled: 0, used: 0 };
-        let mut narrow = BTreeMap::new(alloc);
-        narrow.insert(CATALOGUE, WIDEST)?;
+        let owners = Owners::new(alloc, pages)?;
+        let mut rooms = Rooms::new(alloc, pages);
+        rooms.enter_table(alloc, CATALOGUE, &owners)?;
         Ok(Ledger {
             directory: Directory::new(alloc, pages)?,
-            owners: Owners::new(alloc, pages)?,
+            owners,
             fronts: vec![in alloc; front; pages as usize]?,
-            room: Marks::new(alloc, pages as usize)?,
-            narrow,
+            rooms,
+            alloc,
         })
     }
 
@@ -94,16 +87,13 @@ impl Ledger {
     }
 
     /// Makes room for what `note` keeps of a table, and for the count of its pages, unless there is. Answers `Memory` only for want of memory,
-    /// and all is as it was then. In the time of the owners' `enter_table`.
+    /// and all is as it was then. In the time of the `enter_table` of owners and rooms.
     pub(crate) fn enter_table(&mut self, table: TableNo) -> Result<(), Memory>
         ensures directory { self.new.directory ≡ self.old.directory }
         ensures owners { self.new.owners ≡ self.old.owners }
     {
         self.owners.enter_table(table)?;
-        if !self.narrow.contains_key(&table) {
-            self.narrow.insert(table, WIDEST)?;
-        }
-        Ok(())
+        self.rooms.enter_table(self.alloc, table, &self.owners)
     }
 
     /// An entry more of a key, as in the directory.
@@ -151,14 +141,7 @@ impl Ledger {
             front.lowered(row.slot)
         };
         self.fronts[row.page as usize - 1] = Front { filled: last, used };
-        mark_page(
-            &mut self.room,
-            &mut self.narrow,
-            row.page,
-            table,
-            slots,
-            last,
-        );
+        self.rooms.mark(row.page, table, slots, last);
     }
 
     /// Gives a page to a table, and takes it for one that may have a vacant slot. Logarithmic in the pages and the tables; takes no memory.
@@ -169,26 +152,15 @@ impl Ledger {
         ensures directory { self.new.directory ≡ self.old.directory }
     {
         self.owners.set(page, table);
-        mark_page(&mut self.room, &mut self.narrow, page, table, 0, 0);
+        self.rooms.mark(page, table, 0, 0);
     }
 
-    /// The next page from one on that may be the table's and have a vacant slot, where its pages have so many slots. Logarithmic in the pages and
-    /// the tables. Where pages of the table were noted with fewer slots, it is the next of all pages.
+    /// The next page from one on that may be the table's and have a vacant slot, where its pages have so many slots. In the time of `Rooms::next`.
     pub(crate) fn next_page(&self, table: TableNo, slots: u8, from: u32) -> Option<u32>
         requires { 1 ≤ from }
         ensures { MatchOption result (AreFull (entries_at self.now.directory) self.now.owners table slots from (length self.now.owners + 1)) (IsNextPage (entries_at self.now.directory) self.now.owners table slots from) }
     {
-        if slots > narrow_of(&self.narrow, table) {
-            return if from <= self.owners.pages() {
-                Some(from)
-            } else {
-                None
-            };
-        }
-        match self.room.next(from as usize - 1, class_of(table)) {
-            Some(place) => Some(place as u32 + 1),
-            None => None,
-        }
+        self.rooms.next(table, slots, from)
     }
 
     // What is known of the slots of a page.
@@ -226,58 +198,4 @@ impl Ledger {
         }
         None
     }
-}
-
-// Gives a page the mark of its table, where its first slots, up to one, are not all that the table's pages have, or nothing can be kept of
-// the table; else takes its mark away, and keeps how many slots there are. Logarithmic in the pages and the tables; takes no memory.
-fn mark_page(
-    room: &mut Marks,
-    narrow: &mut BTreeMap<TableNo, u8>,
-    page: u32,
-    table: TableNo,
-    slots: u8,
-    last: u8,
-)
-    requires first { 1 ≤ page }
-    requires last { page ≤ length room.old }
-    ensures here { bit_at (slice_index room.new (page - 1)) (table % 63) ≡ 0 → narrow_of narrow.new table ≤ last }
-    ensures others { (n : ℕ) → n ≢ page - 1 → slice_index room.new n ≡ slice_index room.old n }
-    ensures less { (t : ℕ) → narrow_of narrow.new t ≤ narrow_of narrow.old t }
-    ensures size { length room.new ≡ length room.old }
-{
-    if slots == 0 || last < slots || !narrows(narrow, table, slots) {
-        room.set(page as usize - 1, 1 << class_of(table));
-    } else {
-        room.set(page as usize - 1, 0);
-    }
-}
-
-// Keeps so many slots for a table, where they are fewer than those that are kept for it. Answers whether anything can be kept of the table.
-// Logarithmic in the tables.
-fn narrows(narrow: &mut BTreeMap<TableNo, u8>, table: TableNo, slots: u8) -> bool
-    ensures here { IsTrue result → narrow_of narrow.new table ≤ slots }
-    ensures less { (t : ℕ) → narrow_of narrow.new t ≤ narrow_of narrow.old t }
-{
-    let Some(least) = narrow.get_mut(&table) else {
-        return false;
-    };
-    *least = slots.min(*least);
-    true
-}
-
-// How many slots are kept for a table: the fewest with which a page of it lost its mark. Logarithmic in the tables.
-fn narrow_of(narrow: &BTreeMap<TableNo, u8>, table: TableNo) -> u8
-    ensures { result ≡ narrow_of narrow.now table }
-{
-    match narrow.get(&table) {
-        None => WIDEST,
-        Some(least) => *least,
-    }
-}
-
-// The mark of a table's pages.
-fn class_of(table: TableNo) -> u32
-    ensures { result ≡ table % 63 }
-{
-    table % 63
 }

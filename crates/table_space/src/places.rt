@@ -35,9 +35,8 @@ impl TableSpace {
     /// The place for a new row of a table: the least row id among the slots of the table's pages that no entry fills or reserves for
     /// another transaction; where there is none, slot 1 of the least page without an owner. Answers `NoSpace` exactly where neither is
     /// there. Logarithmic in the pages and the tables, and linear in the slots of a page, for each page of the table that is not known to be
-    /// full, up to the place; for a slot whose entries are no longer counted, linear in all entries. Tables whose numbers are the same modulo
-    /// 63 pass over each other's pages that are not known to be full; only a table that was entered again, with shorter rows, passes over all
-    /// pages.
+    /// full, up to the place; for a slot whose entries are no longer counted, linear in all entries. Only a table that was entered again, with
+    /// shorter rows, passes over all pages.
     pub fn place_for(&self, table: TableNo, tx: TxNo) -> Result<RowId, NoSpace>
         requires some { 1 ≤ length_of self.now table }
         requires few { length_of self.now table ≤ 800 }
@@ -89,7 +88,7 @@ impl TableSpace {
     }
 
     // The least row id among the vacant slots of the table's pages.
-    #[tactic(auto, using(crate::proofs::Rooms::full_blocked))]
+    #[tactic(auto, using(crate::proofs::FullPages::full_blocked))]
     fn vacant_place(&self, table: TableNo, slots: u8, tx: TxNo) -> Option<RowId>
         ensures { MatchOption result (HasNoVacant self.now table slots tx) (λ place. IsLeastVacant self.now table slots tx place.page place.slot) }
     {

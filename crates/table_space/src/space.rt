@@ -133,7 +133,8 @@ impl TableSpace {
 
     /// Keeps the name and the shape of a table, and makes an entry for its number in the catalogue, empty and without a row id.
     /// Answers `Memory` only for want of memory, and all is as it was then. Logarithmic in the keys and the tables, amortised, and a copy of name
-    /// and shape; where the table is new, and a page is owned by a table that was not entered, also linear in the pages.
+    /// and shape; where the table is new, and a page is owned by a table that was not entered, or the table is the first of 64 whose numbers
+    /// divided by 64 are the same, also in proportion to the pages.
     pub fn enter_table(
         &mut self,
         table: TableNo,

@@ -47,16 +47,10 @@ fn enter_table(
     Ok(())
 }
 
-// A space of so many pages, with a table whose rows have four bytes and so many more.
-fn space_with(
-    alloc: Global,
-    pages: u32,
-    table: TableNo,
-    size: u16,
-    rt: &impl Abort,
-) -> Result<TableSpace, Fail> {
+// A space of so many pages, with table 100, whose rows have four bytes and so many more.
+fn space_with(rt: &impl Abort, alloc: Global, pages: u32, size: u16) -> Result<TableSpace, Fail> {
     let mut space = space_of(rt, alloc, pages)?;
-    enter_table(alloc, &mut space, table, b"parts", size)?;
+    enter_table(alloc, &mut space, 100, b"parts", size)?;
     Ok(space)
 }
 
@@ -66,8 +60,11 @@ fn enter(space: &mut TableSpace, table: TableNo, key: u32, tx: TxNo) -> Result<(
 }
 
 // The row id of a key.
-fn found(space: &TableSpace, table: TableNo, key: u32) -> Option<RowId> {
-    space.find(table, &catalogue_key(key))
+fn found(space: &TableSpace, table: TableNo, key: u32) -> Option<u32> {
+    match space.find(table, &catalogue_key(key)) {
+        None => None,
+        Some(row) => Some(row.number()),
+    }
 }
 
 // A transaction ends.
@@ -75,14 +72,18 @@ fn end(space: &mut TableSpace, tx: TxNo) {
     space.end_tx(tx);
 }
 
-// The table of a name.
-fn named(space: &TableSpace, text: &[u8]) -> Option<TableNo> {
-    space.table_named(&Name::new(text)?)
-}
-
+// The place for a row.
 fn place(rt: &impl Abort, space: &TableSpace, table: TableNo, tx: TxNo) -> Result<RowId, NoSpace> {
     assert!(rt; space.has_rows(table));
     space.place_for(table, tx)
+}
+
+// The row id that a row would get, if there is space.
+fn next_row(rt: &impl Abort, space: &TableSpace, table: TableNo, tx: TxNo) -> Option<u32> {
+    match place(rt, space, table, tx) {
+        Ok(row) => Some(row.number()),
+        Err(_) => None,
+    }
 }
 
 // Fills or empties an entry of a key.
@@ -90,113 +91,203 @@ fn note(
     rt: &impl Abort,
     space: &mut TableSpace,
     table: TableNo,
-    row: RowId,
+    row: u32,
     key: u32,
     filled: bool,
     tx: TxNo,
 ) {
+    let row = RowId::from_number(row);
     assert!(rt; space.may_note(table, row, &catalogue_key(key), filled));
     assert!(rt; row.page >= 1);
     assert!(rt; row.page <= space.pages());
     space.note(table, row, &catalogue_key(key), filled, tx);
 }
 
-// A row of a key, in the place that it is given.
-fn insert(
+// Gives a page to a table.
+fn own(rt: &impl Abort, space: &mut TableSpace, table: TableNo, page: u32) {
+    assert!(rt; page >= 1);
+    assert!(rt; page <= space.pages());
+    space.own(table, page);
+}
+
+// A call with its table, key and transaction, and the row id that is given or told of.
+#[derive(Clone, Copy)]
+enum Step {
+    // A row is put where it belongs.
+    Put(TableNo, u32, TxNo, u32),
+    // A row would be put there.
+    Next(TableNo, TxNo, u32),
+    // No row can be put: the rows and the pages that the table has.
+    Full(TableNo, TxNo, u64, u64),
+    // An entry is filled, or emptied.
+    Fill(TableNo, u32, TxNo, u32),
+    Empty(TableNo, u32, TxNo, u32),
+    // A key has a row, or none.
+    Has(TableNo, u32, u32),
+    Lacks(TableNo, u32),
+    // A transaction ends.
+    End(TxNo),
+    // A page is given to a table.
+    Own(TableNo, u32),
+    // The table of the name that table 100 was entered with is there, or not.
+    Named,
+    Unnamed,
+}
+
+// A row is put where it belongs.
+fn put(
     rt: &impl Abort,
     space: &mut TableSpace,
     table: TableNo,
     key: u32,
     tx: TxNo,
-) -> Result<RowId, Fail> {
-    let row = place(rt, space, table, tx)?;
+    row: u32,
+) -> Result<(), Fail> {
+    assert_eq!(rt; next_row(rt, space, table, tx), Some(row));
     enter(space, table, key, tx)?;
     note(rt, space, table, row, key, true, tx);
-    Ok(row)
+    Ok(())
 }
 
-fn row(page: u32, slot: u8) -> RowId {
-    RowId::from_number(page.wrapping_mul(256).wrapping_add(u32::from(slot)))
+// No row can be put.
+fn is_full(rt: &impl Abort, space: &TableSpace, table: TableNo, tx: TxNo, full: NoSpace) {
+    assert_eq!(rt; place(rt, space, table, tx).err(), Some(full));
+}
+
+// The table of that name.
+fn named(space: &TableSpace) -> Option<TableNo> {
+    space.table_named(&Name::new(b"parts")?)
+}
+
+// Makes a call.
+fn makes(rt: &impl Abort, space: &mut TableSpace, step: Step) -> Result<(), Fail> {
+    match step {
+        Step::Put(table, key, tx, row) => put(rt, space, table, key, tx, row)?,
+        Step::Next(table, tx, row) => {
+            assert_eq!(rt; next_row(rt, space, table, tx), Some(row));
+        }
+        Step::Full(table, tx, rows, pages) => is_full(
+            rt,
+            space,
+            table,
+            tx,
+            NoSpace { rows, pages },
+        ),
+        Step::Fill(table, key, tx, row) => note(rt, space, table, row, key, true, tx),
+        Step::Empty(table, key, tx, row) => note(rt, space, table, row, key, false, tx),
+        Step::Has(table, key, row) => {
+            assert_eq!(rt; found(space, table, key), Some(row));
+        }
+        Step::Lacks(table, key) => {
+            assert_eq!(rt; found(space, table, key), None);
+        }
+        Step::End(tx) => end(space, tx),
+        Step::Own(table, page) => own(rt, space, table, page),
+        Step::Named => {
+            assert_eq!(rt; named(space), Some(100));
+        }
+        Step::Unnamed => {
+            assert_eq!(rt; named(space), None);
+        }
+    }
+    Ok(())
+}
+
+// Makes calls over so many pages, where rows of table 100 have so many bytes more than four.
+fn follows(
+    rt: &impl Abort,
+    alloc: Global,
+    pages: u32,
+    size: u16,
+    steps: &[Step],
+) -> Result<(), Fail> {
+    let mut space = space_with(rt, alloc, pages, size)?;
+    for step in steps {
+        makes(rt, &mut space, *step)?;
+    }
+    Ok(())
 }
 
 /// Rows of 800 bytes go two to a page, to the least row id first, until two pages are full.
 #[test]
 fn tells_of_no_space(rt: HostRuntime) -> Result<(), Fail> {
-    let mut space = space_with(rt.alloc(), 2, 100, 796, &rt)?;
-    assert_eq!(rt; insert(&rt, &mut space, 100, 7, 1)?.number(), 257);
-    assert_eq!(rt; insert(&rt, &mut space, 100, 5, 1)?.number(), 258);
-    assert_eq!(rt; insert(&rt, &mut space, 100, 6, 1)?.number(), 513);
-    assert_eq!(rt; place(&rt, &space, 100, 1)?.number(), 514);
-    assert_eq!(rt; insert(&rt, &mut space, 100, 8, 1)?.number(), 514);
-    let full = NoSpace { rows: 4, pages: 2 };
-    assert_eq!(rt; place(&rt, &space, 100, 1).err(), Some(full));
-    let none = NoSpace { rows: 0, pages: 0 };
-    assert_eq!(rt; place(&rt, &space, 1, 1).err(), Some(none));
-    Ok(())
+    let steps = [
+        Step::Put(100, 7, 1, 257),
+        Step::Put(100, 5, 1, 258),
+        Step::Put(100, 6, 1, 513),
+        Step::Next(100, 1, 514),
+        Step::Put(100, 8, 1, 514),
+        Step::Full(100, 1, 4, 2),
+        Step::Full(1, 1, 0, 0),
+    ];
+    follows(&rt, rt.alloc(), 2, 796, &steps)
 }
 
 /// A slot that a transaction emptied is given to it and to no other, until it ends; and the key may be put back.
 #[test]
 fn reserves_what_was_emptied(rt: HostRuntime) -> Result<(), Fail> {
-    let mut space = space_with(rt.alloc(), 3, 100, 796, &rt)?;
-    let first = insert(&rt, &mut space, 100, 7, 1)?;
-    end(&mut space, 1);
-    note(&rt, &mut space, 100, first, 7, false, 2);
-    assert!(rt; found(&space, 100, 7).is_none());
-    assert_eq!(rt; place(&rt, &space, 100, 2)?.number(), 257);
-    assert_eq!(rt; place(&rt, &space, 100, 3)?.number(), 258);
-    assert_eq!(rt; place(&rt, &space, 100, 0)?.number(), 258);
-    note(&rt, &mut space, 100, first, 7, true, 2);
-    assert_eq!(rt; found(&space, 100, 7).map(|row| row.number()), Some(257));
-    note(&rt, &mut space, 100, first, 7, false, 2);
-    end(&mut space, 3);
-    assert_eq!(rt; place(&rt, &space, 100, 3)?.number(), 258);
-    end(&mut space, 2);
-    assert_eq!(rt; place(&rt, &space, 100, 3)?.number(), 257);
-    assert!(rt; !space.may_note(100, first, &catalogue_key(7), true));
-    Ok(())
+    let steps = [
+        Step::Put(100, 7, 1, 257),
+        Step::End(1),
+        Step::Empty(100, 7, 2, 257),
+        Step::Lacks(100, 7),
+        Step::Next(100, 2, 257),
+        Step::Next(100, 3, 258),
+        Step::Next(100, 0, 258),
+        Step::Fill(100, 7, 2, 257),
+        Step::Has(100, 7, 257),
+        Step::Empty(100, 7, 2, 257),
+        Step::End(3),
+        Step::Next(100, 3, 258),
+        Step::End(2),
+        Step::Next(100, 3, 257),
+    ];
+    follows(&rt, rt.alloc(), 3, 796, &steps)
 }
 
 /// A page that is given to a table takes its rows, and those of no other.
 #[test]
 fn gives_a_page_to_a_table(rt: HostRuntime) -> Result<(), Fail> {
-    let mut space = space_with(rt.alloc(), 3, 100, 796, &rt)?;
-    assert!(rt; space.pages() >= 2);
-    space.own(100, 2);
-    assert_eq!(rt; place(&rt, &space, 100, 1)?.number(), 513);
-    assert_eq!(rt; place(&rt, &space, 1, 1)?.number(), 257);
-    Ok(())
+    let steps = [
+        Step::Own(100, 2),
+        Step::Next(100, 1, 513),
+        Step::Next(1, 1, 257),
+    ];
+    follows(&rt, rt.alloc(), 3, 796, &steps)
 }
 
 /// A slot that three keys of one transaction have had is given to it, and to others only once it ended.
 #[test]
 fn gives_a_slot_that_several_keys_emptied(rt: HostRuntime) -> Result<(), Fail> {
-    let mut space = space_with(rt.alloc(), 3, 100, 796, &rt)?;
-    for key in 5..8u32 {
-        let held = insert(&rt, &mut space, 100, key, 1)?;
-        assert_eq!(rt; held.number(), 257);
-        note(&rt, &mut space, 100, held, key, false, 1);
-        assert_eq!(rt; place(&rt, &space, 100, 2)?.number(), 258);
-    }
-    end(&mut space, 1);
-    assert_eq!(rt; place(&rt, &space, 100, 2)?.number(), 257);
-    Ok(())
+    let steps = [
+        Step::Put(100, 5, 1, 257),
+        Step::Empty(100, 5, 1, 257),
+        Step::Put(100, 6, 1, 257),
+        Step::Empty(100, 6, 1, 257),
+        Step::Put(100, 7, 1, 257),
+        Step::Empty(100, 7, 1, 257),
+        Step::Next(100, 2, 258),
+        Step::End(1),
+        Step::Next(100, 2, 257),
+    ];
+    follows(&rt, rt.alloc(), 3, 796, &steps)
 }
 
 /// A table is there from the moment when its row in the catalogue is filled, and not once it was rolled back.
 #[test]
 fn forgets_a_table_that_is_rolled_back(rt: HostRuntime) -> Result<(), Fail> {
-    let mut space = space_with(rt.alloc(), 3, 100, 8, &rt)?;
-    assert_eq!(rt; named(&space, b"parts"), None);
-    let first = place(&rt, &space, 1, 1)?;
-    note(&rt, &mut space, 1, first, 100, true, 1);
-    assert_eq!(rt; named(&space, b"parts"), Some(100));
-    note(&rt, &mut space, 1, first, 100, false, 1);
-    assert_eq!(rt; named(&space, b"parts"), None);
-    end(&mut space, 1);
-    assert_eq!(rt; named(&space, b"parts"), None);
-    assert_eq!(rt; place(&rt, &space, 1, 2)?.number(), 257);
-    Ok(())
+    let steps = [
+        Step::Unnamed,
+        Step::Next(1, 1, 257),
+        Step::Fill(1, 100, 1, 257),
+        Step::Named,
+        Step::Empty(1, 100, 1, 257),
+        Step::Unnamed,
+        Step::End(1),
+        Step::Unnamed,
+        Step::Next(1, 2, 257),
+    ];
+    follows(&rt, rt.alloc(), 3, 8, &steps)
 }
 
 // An entry of a plain list.
@@ -262,9 +353,8 @@ fn adds(
     wanted: (TableNo, u32, TxNo),
 ) -> Result<(), Memory> {
     let (table, key, tx) = wanted;
-    let place = place(rt, space, table, tx).ok();
-    let number = place.map(|row| row.number());
-    assert_eq!(rt; number, plain_place(plain, owners, table, tx));
+    let place = next_row(rt, space, table, tx);
+    assert_eq!(rt; place, plain_place(plain, owners, table, tx));
     let Some(row) = place else {
         return Ok(());
     };
@@ -290,19 +380,19 @@ fn marks(
     plain: &mut [Plain],
     owners: &mut [TableNo],
     wanted: (TableNo, u32, TxNo),
-    row: RowId,
+    row: u32,
     filled: bool,
 ) {
     let (table, key, tx) = wanted;
     note(rt, space, table, row, key, filled, tx);
-    let Some(at) = plain_entry(plain, table, key, row.number()) else {
+    let Some(at) = plain_entry(plain, table, key, row) else {
         return;
     };
     assert!(rt; at < plain.len());
-    plain[at].row = Some(row.number());
+    plain[at].row = Some(row);
     plain[at].filled = filled;
     plain[at].tx = tx;
-    let page = (row.page as usize).saturating_sub(1);
+    let page = (row as usize / 256).saturating_sub(1);
     assert!(rt; page < owners.len());
     owners[page] = table;
 }
@@ -313,17 +403,21 @@ fn next_draw(draw: u32) -> u32 {
 }
 
 // A call as a draw says.
-fn step(
+fn call_drawn(
     rt: &impl Abort,
     space: &mut TableSpace,
     plain: &mut Vec<Plain>,
     owners: &mut [TableNo],
     number: u32,
 ) -> Result<(), Memory> {
-    let wanted = (100 + number % 2, number / 2 % 9, u64::from(number / 18 % 3));
+    let wanted = (
+        100 + 64 * (number % 2),
+        number / 2 % 9,
+        u64::from(number / 18 % 3),
+    );
     let (table, key, tx) = wanted;
     let held = found(space, table, key);
-    assert_eq!(rt; held.map(|row| row.number()), plain_row(plain, table, key));
+    assert_eq!(rt; held, plain_row(plain, table, key));
     match (number / 54 % 5, held) {
         (0 | 1, _) => adds(rt, space, plain, owners, wanted)?,
         (2 | 3, Some(row)) => marks(rt, space, plain, owners, wanted, row, false),
@@ -339,14 +433,14 @@ fn step(
 /// A thousand calls beside a plain list.
 #[test]
 fn agrees_with_a_plain_list(rt: HostRuntime) -> Result<(), Fail> {
-    let mut space = space_with(rt.alloc(), 6, 100, 796, &rt)?;
-    enter_table(rt.alloc(), &mut space, 101, b"more", 796)?;
+    let mut space = space_with(&rt, rt.alloc(), 6, 796)?;
+    enter_table(rt.alloc(), &mut space, 164, b"more", 796)?;
     let mut plain: Vec<Plain> = Vec::new(rt.alloc());
     let mut owners = [0; 6];
     let mut draw = 12345u32;
     for _ in 0..1000 {
         draw = next_draw(draw);
-        step(&rt, &mut space, &mut plain, &mut owners, draw / 65536)?;
+        call_drawn(&rt, &mut space, &mut plain, &mut owners, draw / 65536)?;
     }
     Ok(())
 }

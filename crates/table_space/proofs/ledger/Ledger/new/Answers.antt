@@ -1,13 +1,13 @@
-use Rattle.std.proofs.Common.{rules, arith}
+use Rattle.std.proofs.Common.{◌∙◌, rules, arith, refl}
 use Rattle.std.proofs.lemmas.Grind.{common_steps}
-use Rattle.std.proofs.Common.{refl}
-use Rattle.table_space.proofs.Rooms.{rooms-new}
+use Rattle.table_space.proofs.FullPages.{rooms-new}
 use Rattle.table_space.proofs.Fronts.{fronts-new}
 use Rattle.table_space.proofs.ledger.Ledger.new.Goals as goal
 
-pub invariant_of-result : goal.invariant_of-result
-invariant_of-result c = (
+pub invariant_of-result-2 : goal.invariant_of-result-2
+invariant_of-result-2 c = (
+  grind (arith, common_steps),
   grind (arith, common_steps),
   fronts-new _ c.args.pages _ (c.in_ok-vec.ensures.items_if_clones_equal (λ y h. search rules)) refl c.in_ok-new.ensures,
-  rooms-new c.args.pages _ _ _ c.in_ok-new-2.ensures c.in_ok-new-3.ensures.room c.in_ok-new-3.ensures.none,
+  rooms-new c.args.pages _ c.enter_table.new.self (c.owners.view_is ∙ c.in_ok-owners.ensures),
 )

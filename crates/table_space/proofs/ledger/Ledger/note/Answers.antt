@@ -6,7 +6,7 @@ use Rattle.table_space.specs.Noted.{has_entry_for}
 use Rattle.table_space.specs.Fronts.{IsFront, AreFilled}
 use Rattle.ids_base.specs.RowIds.{row_number}
 use Rattle.table_space.proofs.Fronts.{page-noted, page-lowered, page-kept, fronts-noted, row-stays, row-filled}
-use Rattle.table_space.proofs.Rooms.{rooms-noted}
+use Rattle.table_space.proofs.FullPages.{rooms-noted}
 use Rattle.table_space.proofs.ledger.Ledger.note.Goals as goal
 use Rattle.table_space.proofs.ledger.Ledger.note.Goals.{then-filled, else-filled}
 
@@ -39,14 +39,15 @@ invariant_of-self c =
           (row-stays c.args.row.page c.args.row.slot c.number.result c.number.ensures c.args.tx c.args.filled c.note.ensures) known)
     ] in (
       length-set c.self.inside.fronts.items _ _ ∙ (c.self.invariant.0 ∙ (sym (length-set c.self.inside.owners _ _) ∙ ap length (sym c.set.ensures))),
+      c.mark.ensures.pages ∙ (c.self.invariant.1 ∙ (sym (length-set c.self.inside.owners _ _) ∙ ap length (sym c.set.ensures))),
       fronts-noted c.self.inside.fronts.items c.args.row.page c.args.row.slot _ c.requires.first within (omega arith)
           (row-stays c.args.row.page c.args.row.slot c.number.result c.number.ensures c.args.tx c.args.filled c.note.ensures)
-          c.self.invariant.1
+          c.self.invariant.2
           (page-noted c.args.row.page c.args.row.slot c.front_of-front.result _ (omega arith)
           (row-stays c.args.row.page c.args.row.slot c.number.result c.number.ensures c.args.tx c.args.filled c.note.ensures)
           known last c.max-used.ensures),
-      rw c.set.ensures (rooms-noted c.self.inside.owners c.self.inside.room c.mark_page.new.room c.self.inside.narrow c.mark_page.new.narrow c.args.row.page c.args.row.slot c.args.table c.if-filled.last c.requires.first (omega (arith, same, c.requires.last)) (omega arith)
+      rw c.set.ensures (rooms-noted c.self.inside.owners c.self.inside.rooms c.mark.new.self c.args.row.page c.args.row.slot c.args.table c.if-filled.last c.requires.first (omega (arith, same, c.requires.last)) (omega arith)
           (row-stays c.args.row.page c.args.row.slot c.number.result c.number.ensures c.args.tx c.args.filled c.note.ensures)
-          c.self.invariant.2 last
-          c.mark_page.ensures.here c.mark_page.ensures.others c.mark_page.ensures.less c.mark_page.ensures.size),
+          c.self.invariant.3 last
+          c.mark.ensures.here c.mark.ensures.others),
     )
