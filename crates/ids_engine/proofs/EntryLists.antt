@@ -123,25 +123,10 @@ fills-some row es some = at (row_of es) refl
 
 -- The entry of a row id that is filled or emptied.
 
+-- it has the row id
 at-changed : (row tx : ℕ) (filled : Bool) → is_at row (changed row filled tx).held ≡ true
 at-changed row tx true = eq-eqb row row refl
 at-changed row tx false = eq-eqb row row refl
-
-first-has : (test : Entry → Bool) (new : Entry) (row : ℕ) → has_row row new ≡ true → (es : List Entry) → list_any test es ≡ true → list_any (has_row row) (put_first test new es) ≡ true
-first-has test new row is [] some = absurd (cc)
-first-has test new row is (x ∷ es) some = at (test x) some (first-has test new row is es)
-  where
-    at : (b : Bool) → (b || list_any test es) ≡ true → (list_any test es ≡ true → list_any (has_row row) (put_first test new es) ≡ true) → list_any (has_row row) (if b then new ∷ es else x ∷ put_first test new es) ≡ true
-    at true s more = or_left (has_row row new) _ is
-    at false s more = or_right (has_row row x) _ (more s)
-
--- it has the row id
-pub noted-has : (row tx : ℕ) (filled : Bool) (es : List Entry) → has_entry_for row filled es ≡ true → list_any (has_row row) (noted row filled tx es) ≡ true
-noted-has row tx filled es some = at (list_any (has_row row) es) refl some
-  where
-    at : (b : Bool) → list_any (has_row row) es ≡ b → (b || (filled && list_any is_new es)) ≡ true → list_any (has_row row) (put_first (if b then has_row row else is_new) (changed row filled tx) es) ≡ true
-    at true is s = first-has (has_row row) (changed row filled tx) row (at-changed row tx filled) es is
-    at false is s = first-has is_new (changed row filled tx) row (at-changed row tx filled) es (and_parts _ _ s).1
 
 -- another that passes a test stays, where what is replaced passes it no more than what is new
 first-keeps : (test p : Entry → Bool) (new : Entry) → ((x : Entry) → test x ≡ true → p x ≡ true → p new ≡ true) → (es : List Entry) → list_any p es ≡ true → list_any p (put_first test new es) ≡ true

@@ -47,5 +47,6 @@ pub mod MadeChanges
 pub mod EntriesEntered
 pub mod RowsApart
 pub mod PagesOwned
+pub mod PagesGiven
 pub mod TablesEntered
 pub mod RowsEntered
