@@ -8,7 +8,15 @@ use std::io;
 use std::process::ExitCode;
 
 #[cfg(test)]
-mod tests;
+mod disk_tests;
+#[cfg(test)]
+mod file_tests;
+#[cfg(test)]
+mod random_tests;
+#[cfg(test)]
+mod script_tests;
+#[cfg(test)]
+mod stop_tests;
 
 // The words behind the program's name.
 fn words_of(rt: &HostRuntime) -> io::Result<Vec<String>> {

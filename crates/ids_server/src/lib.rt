@@ -4,20 +4,12 @@
 //! a script run in a session, opening, and the server. The theorem of the product is the contract of `server::server`.
 #![tactic(auto)]
 
-#[cfg(test)]
-mod disk_tests;
 pub mod laws;
 mod opening;
 pub mod printer;
-#[cfg(test)]
-mod random_tests;
 pub mod reading;
 mod runner;
 pub mod server;
 mod session;
-#[cfg(test)]
-mod stop_tests;
-#[cfg(test)]
-mod tests;
 pub mod text;
 pub mod words;

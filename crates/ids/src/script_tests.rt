@@ -2,12 +2,12 @@
 //! and the statuses of disks, sources, sinks and words that fail.
 ghost use Rattle.std.specs.Prelude.{[]};
 
-use crate::printer::Printer;
-use crate::server::{Ended, server};
-use crate::text::put_reply;
 use ids_base::reply::Reply;
 use ids_base::status::{Status, Why};
 use ids_outside::{MemDisk, MemSink, MemSource, OpenGate, Source, SourceFault};
+use ids_server::printer::Printer;
+use ids_server::server::{Ended, server};
+use ids_server::text::put_reply;
 use std::alloc::Global;
 use std::process::Abort;
 use std::test::Fail;

@@ -2,11 +2,11 @@
 ghost use Rattle.std.specs.Prelude.{◌≤◌, IfOk};
 ghost use Rattle.ids_engine.specs.Plans.{IsPlan};
 
-use crate::server::{Ended, server};
 use ids_base::status::Status;
 use ids_engine::{InitPlan, init_disk};
 use ids_model::journal::Committed;
 use ids_outside::{Disk, Leave, MemDisk, MemSink, MemSource, OpenGate, is_image};
+use ids_server::server::{Ended, server};
 use std::alloc::Global;
 use std::process::Abort;
 use std::test::Fail;
