@@ -3,6 +3,7 @@
 
 The disk is formatted here and not by `ids init`, whose log would be too short: 64 log files of 1024 blocks. Each part is a run of its own,
 in transactions of 100 statements; from its time that of a run over the same disk with an empty script, which opens it and ends, is taken away (the shortest of three).
+Then what a row costs a small table, while another has thousands of pages with room: tables whose numbers are so many greater.
 Needs the built program crates/ids/out/ids.
 Usage: tools/bench_rows.py [ROWS [FOLDER]]   (10^3, 10^4, .. up to ROWS, 100000 by default; a folder on the file system that is to be used)"""
 import os, random, shutil, struct, subprocess, sys, tempfile, time
@@ -67,7 +68,26 @@ def measure(rows):
         shutil.rmtree(folder)
 
 
+def measure_beside(rows):
+    """Rows are put into small tables, while the first table has some thousand pages that are half full."""
+    folder = tempfile.mkdtemp(prefix="ids-rows-", dir=base)
+    try:
+        format_disk(folder)
+        run(folder, ["CREATE TABLE t0 (k INTEGER, c CHAR(796))"] + [f"CREATE TABLE t{n} (k INTEGER, v INTEGER)" for n in range(1, 130)])
+        run(folder, [f"INSERT INTO t0 VALUES ({key}, 'x')" for key in range(12000)])
+        run(folder, [f"DELETE FROM t0 WHERE k = {key}" for key in range(0, 12000, 2)])
+        costs = []
+        for n in (1, 2, 62, 63, 64, 126, 128):
+            opening = min(run(folder, []) for _ in range(3))
+            taken = run(folder, [f"INSERT INTO t{n} VALUES ({key}, 0)" for key in range(rows)]) - opening
+            costs.append(f"+{n} {taken / rows * 1e6:.1f}")
+        print(f"{rows} rows beside 6000 pages with room: microseconds an INSERT: {', '.join(costs)}", flush=True)
+    finally:
+        shutil.rmtree(folder)
+
+
 rows = 1000
 while rows <= most:
     measure(rows)
     rows *= 10
+measure_beside(5000)
