@@ -2,7 +2,7 @@
 ghost use Rattle.std.specs.Prelude.{◌≤◌};
 ghost use Rattle.ids_engine.specs.Plans.{IsPlan};
 
-use crate::stop_tests::run;
+use crate::runs::run;
 use chunk_map::{newest, read_identity};
 use fast_recovery::opening::open_log;
 use ids_base::status::Status;

@@ -1,21 +1,15 @@
 //! The calls that the program makes, over files of the folder that it is run in.
-ghost use Rattle.std.specs.Prelude.{[]};
 
+use crate::runs::run_word;
 use ids_base::status::Status;
-use ids_outside::{FileDisk, MemSink, MemSource, OpenGate};
-use ids_server::server::{Ended, server};
+use ids_outside::{FileDisk, MemSink};
+use ids_server::server::Ended;
 use std::fs;
 use std::test::Fail;
 
 // Runs a word with a script over the folder's files.
 fn run(rt: &HostRuntime, word: &str, script: &[u8]) -> Result<Ended<FileDisk, MemSink>, Fail> {
-    let alloc = rt.alloc();
-    let mut words = Vec::new(alloc);
-    words.push(String::from_str(alloc, word)?)?;
-    let mut source = MemSource::new(script.to_vec(alloc)?, Vec::new(alloc));
-    let sink = MemSink::new(alloc, Vec::new(alloc));
-    let disk = FileDisk::new(rt);
-    Ok(server(alloc, words.as_slice(), &mut source, disk, sink, &OpenGate))
+    run_word(rt.alloc(), word, FileDisk::new(rt), script)
 }
 
 #[test]

@@ -14,6 +14,8 @@ mod file_tests;
 #[cfg(test)]
 mod random_tests;
 #[cfg(test)]
+mod runs;
+#[cfg(test)]
 mod script_tests;
 #[cfg(test)]
 mod stop_tests;

@@ -1,6 +1,6 @@
 //! Runs of random statements over one disk, opened again between them, beside a plain model of one table.
 
-use crate::stop_tests::run;
+use crate::runs::run;
 use ids_base::status::Status;
 use ids_engine::{InitPlan, init_disk};
 use ids_outside::MemDisk;

@@ -2,174 +2,161 @@
 //! and the statuses of disks, sources, sinks and words that fail.
 ghost use Rattle.std.specs.Prelude.{[]};
 
+use crate::runs::{Run, run, run_from, run_word};
 use ids_base::reply::Reply;
 use ids_base::status::{Status, Why};
-use ids_outside::{MemDisk, MemSink, MemSource, OpenGate, Source, SourceFault};
+use ids_outside::{MemDisk, MemSink, MemSource, Source, SourceFault};
 use ids_server::printer::Printer;
-use ids_server::server::{Ended, server};
 use ids_server::text::put_reply;
 use std::alloc::Global;
 use std::process::Abort;
 use std::test::Fail;
-
-type Run = Ended<MemDisk, MemSink>;
 
 // A disk without pages, whose listed calls fail.
 fn empty(alloc: Global, fails: &[u64]) -> Result<MemDisk, Fail> {
     Ok(MemDisk::new(alloc, &[], fails.to_vec(alloc)?)?)
 }
 
-// Runs the word over a disk, a script, a source whose listed calls fail, and a sink whose listed calls fail.
-fn run(
+// Runs the first script over a disk, from a source whose listed calls fail, into a sink whose listed calls fail.
+fn run_first(
     alloc: Global,
     disk: MemDisk,
-    word: &str,
-    script: &[u8],
     source_fails: &[u64],
     sink_fails: &[u64],
 ) -> Result<Run, Fail> {
-    let mut words = Vec::new(alloc);
-    words.push(String::from_str(alloc, word)?)?;
-    let mut source = MemSource::new(script.to_vec(alloc)?, source_fails.to_vec(alloc)?);
-    let sink = MemSink::new(alloc, sink_fails.to_vec(alloc)?);
-    Ok(server(alloc, words.as_slice(), &mut source, disk, sink, &OpenGate))
+    let mut source = MemSource::new(FIRST.to_vec(alloc)?, source_fails.to_vec(alloc)?);
+    run_from(alloc, "run", &mut source, disk, sink_fails)
 }
 
 // A disk that `init` formatted.
 fn formatted(alloc: Global) -> Result<MemDisk, Fail> {
-    let ended = run(alloc, empty(alloc, &[])?, "init", b"", &[], &[])?;
+    let ended = run_word(alloc, "init", empty(alloc, &[])?, b"")?;
     Ok(ended.disk)
 }
 
 const FIRST: &[u8] =
     b"CREATE TABLE t (k INTEGER, c CHAR(4))\nBEGIN WORK\nINSERT INTO t VALUES (7, 'ab')\nSELECT * FROM t WHERE k = 7\nCOMMIT WORK";
 
-// The script is run to its end over this disk, gives this text, and commits so many transactions; the disk as it is left.
-fn gives_over(
-    rt: &impl Abort,
-    alloc: Global,
-    disk: MemDisk,
-    script: &[u8],
-    text: &[u8],
+// A script, the text that it gives, and how many transactions it commits.
+struct Worked {
+    name: &'static str,
+    script: &'static [u8],
+    text: &'static [u8],
     entries: usize,
-) -> Result<MemDisk, Fail> {
-    let ended = run(alloc, disk, "run", script, &[], &[])?;
-    assert_eq!(rt; ended.status, Status::Done, "{script:?}");
-    assert_eq!(rt; ended.out.taken(), text, "{script:?}");
-    assert_eq!(rt; ended.journal.len(), entries, "{script:?}");
+}
+
+// Each over a disk that was just formatted.
+const ALONE: [Worked; 14] = [
+    Worked {
+        name: "the first script",
+        script: FIRST,
+        text: b"1.1 created\n1.2 begun\n1.3 rows 1\n1.4 7|ab|\n1.4 rows 1\n1.5 committed\n",
+        entries: 2,
+    },
+    Worked {
+        name: "an empty script",
+        script: b"",
+        text: b"",
+        entries: 0,
+    },
+    Worked {
+        name: "a script of blanks and a comment",
+        script: b"\n  -- nothing\n\t\r\n",
+        text: b"",
+        entries: 0,
+    },
+    Worked {
+        name: "transactions that begin and end",
+        script: b"BEGIN\nCOMMIT\nCOMMIT\nBEGIN\nBEGIN\nROLLBACK",
+        text: b"1.1 begun\n1.2 committed\n1.3 error -255\n1.4 begun\n1.5 error -535\n1.6 rolled back\n",
+        entries: 1,
+    },
+    Worked {
+        name: "refused statements",
+        script: b"CREATE TABLE t (k INTEGER)\ncreate table T (k integer);\nINSERT INTO t VALUES (1)\nINSERT INTO t VALUES (1)",
+        text: b"1.1 created\n1.2 error table exists\n1.3 rows 1\n1.4 error duplicate\n",
+        entries: 4,
+    },
+    Worked {
+        name: "no table, and a key that is too long",
+        script: b"SELECT * FROM nobody WHERE k = 1\nCREATE TABLE t (k CHAR(33))",
+        text: b"1.1 error no table\n1.2 error bad shape\n",
+        entries: 2,
+    },
+    Worked {
+        name: "shapes of tables",
+        script: b"CREATE TABLE t (k CHAR(0))\nCREATE TABLE t (k CHAR(33))\nCREATE TABLE t (k INTEGER, k INTEGER)\nCREATE TABLE t (k INTEGER, c CHAR(0))\nCREATE TABLE t (k INTEGER, c CHAR(797))",
+        text: b"1.1 error bad shape\n1.2 error bad shape\n1.3 error bad shape\n1.4 error bad shape\n1.5 error bad shape\n",
+        entries: 5,
+    },
+    Worked {
+        name: "shapes of tables that are as large as may be",
+        script: b"CREATE TABLE t (a INTEGER, b INTEGER, c INTEGER, d INTEGER, e INTEGER, f INTEGER, g INTEGER, h INTEGER, i INTEGER, j INTEGER, k INTEGER, l INTEGER, m INTEGER, n INTEGER, o INTEGER, p INTEGER, q INTEGER)\nCREATE TABLE t (k INTEGER, c CHAR(796))\nCREATE TABLE u (k CHAR(32), c CHAR(1))",
+        text: b"1.1 error bad shape\n1.2 created\n1.3 created\n",
+        entries: 3,
+    },
+    Worked {
+        name: "shapes of rows",
+        script: b"CREATE TABLE t (k INTEGER, c CHAR(2))\nINSERT INTO t VALUES (7)\nINSERT INTO t VALUES (7, 'a', 1)\nINSERT INTO t VALUES (7, 7)\nINSERT INTO t VALUES ('7', 'a')\nINSERT INTO t VALUES (7, 'abc')\nINSERT INTO t VALUES (7, 'ab   ')",
+        text: b"1.1 created\n1.2 error bad shape\n1.3 error bad shape\n1.4 error bad shape\n1.5 error bad shape\n1.6 error bad shape\n1.7 rows 1\n",
+        entries: 7,
+    },
+    Worked {
+        name: "shapes of conditions",
+        script: b"CREATE TABLE t (k INTEGER, c CHAR(2))\nSELECT * FROM t WHERE z = 7\nSELECT * FROM t WHERE k = '7'\nSELECT * FROM t WHERE c = 7\nSELECT * FROM t WHERE c = 'abc'\nSELECT * FROM t WHERE c = 'ab'\nDELETE FROM t WHERE z = 4\nDELETE FROM u WHERE k = 4\nINSERT INTO u VALUES (4)",
+        text: b"1.1 created\n1.2 error bad shape\n1.3 error bad shape\n1.4 error bad shape\n1.5 error bad shape\n1.6 rows 0\n1.7 error bad shape\n1.8 error no table\n1.9 error no table\n",
+        entries: 9,
+    },
+    Worked {
+        name: "rows in the order of their keys",
+        script: b"CREATE TABLE t (k INTEGER, v INTEGER)\nINSERT INTO t VALUES (3, 1)\nINSERT INTO t VALUES (-5, 1)\nINSERT INTO t VALUES (2147483647, 1)\nINSERT INTO t VALUES (0, 1)\nINSERT INTO t VALUES (-2147483647, 1)\nSELECT * FROM t WHERE v = 1",
+        text: b"1.1 created\n1.2 rows 1\n1.3 rows 1\n1.4 rows 1\n1.5 rows 1\n1.6 rows 1\n1.7 -2147483647|1|\n1.7 -5|1|\n1.7 0|1|\n1.7 3|1|\n1.7 2147483647|1|\n1.7 rows 5\n",
+        entries: 7,
+    },
+    Worked {
+        name: "values as they are printed",
+        script: b"CREATE TABLE t (k INTEGER, c CHAR(9))\nINSERT INTO t VALUES (-2147483647, 'a|b\\c''d ')\nSELECT * FROM t WHERE k = -2147483647",
+        text: b"1.1 created\n1.2 rows 1\n1.3 -2147483647|a\\|b\\\\c'd|\n1.3 rows 1\n",
+        entries: 3,
+    },
+    Worked {
+        name: "rows that go by their key",
+        script: b"CREATE TABLE t (k INTEGER, v INTEGER)\nINSERT INTO t VALUES (1, 10)\nINSERT INTO t VALUES (2, 20)\nBEGIN\nDELETE FROM t WHERE k = 1\nINSERT INTO t VALUES (1, 11)\nINSERT INTO t VALUES (1, 12)\nCOMMIT",
+        text: b"1.1 created\n1.2 rows 1\n1.3 rows 1\n1.4 begun\n1.5 rows 1\n1.6 rows 1\n1.7 error duplicate\n1.8 committed\n",
+        entries: 4,
+    },
+    Worked {
+        name: "rows that go by another column",
+        script: b"CREATE TABLE t (k INTEGER, v INTEGER)\nINSERT INTO t VALUES (1, 7)\nINSERT INTO t VALUES (2, 8)\nINSERT INTO t VALUES (3, 7)\nDELETE FROM t WHERE v = 7\nDELETE FROM t WHERE k = 4\nSELECT * FROM t WHERE v = 7\nSELECT * FROM t WHERE v = 8",
+        text: b"1.1 created\n1.2 rows 1\n1.3 rows 1\n1.4 rows 1\n1.5 rows 2\n1.6 rows 0\n1.7 rows 0\n1.8 2|8|\n1.8 rows 1\n",
+        entries: 8,
+    },
+];
+
+// The script is run to its end over this disk; the disk as it is left.
+fn gives(rt: &impl Abort, alloc: Global, disk: MemDisk, worked: &Worked) -> Result<MemDisk, Fail> {
+    let ended = run(alloc, disk, worked.script)?;
+    assert_eq!(rt; ended.status, Status::Done, "{}", worked.name);
+    assert_eq!(rt; ended.out.taken(), worked.text, "{}", worked.name);
+    assert_eq!(rt; ended.journal.len(), worked.entries, "{}", worked.name);
     Ok(ended.disk)
 }
 
-// The same over a disk that was just formatted.
-fn gives(
-    rt: &impl Abort,
-    alloc: Global,
-    script: &[u8],
-    text: &[u8],
-    entries: usize,
-) -> Result<(), Fail> {
-    gives_over(rt, alloc, formatted(alloc)?, script, text, entries)?;
+#[test]
+fn scripts_give_their_text(rt: HostRuntime) -> Result<(), Fail> {
+    for worked in &ALONE {
+        gives(&rt, rt.alloc(), formatted(rt.alloc())?, worked)?;
+    }
     Ok(())
 }
 
-#[test]
-fn the_first_script(rt: HostRuntime) -> Result<(), Fail> {
-    gives(
-        &rt,
-        rt.alloc(),
-        FIRST,
-        b"1.1 created\n1.2 begun\n1.3 rows 1\n1.4 7|ab|\n1.4 rows 1\n1.5 committed\n",
-        2,
-    )?;
-    gives(&rt, rt.alloc(), b"", b"", 0)?;
-    gives(&rt, rt.alloc(), b"\n  -- nothing\n\t\r\n", b"", 0)
-}
-
-#[test]
-fn transactions_that_begin_and_end(rt: HostRuntime) -> Result<(), Fail> {
-    gives(
-        &rt,
-        rt.alloc(),
-        b"BEGIN\nCOMMIT\nCOMMIT\nBEGIN\nBEGIN\nROLLBACK",
-        b"1.1 begun\n1.2 committed\n1.3 error -255\n1.4 begun\n1.5 error -535\n1.6 rolled back\n",
-        1,
-    )
-}
-
-#[test]
-fn refused_statements(rt: HostRuntime) -> Result<(), Fail> {
-    gives(
-        &rt,
-        rt.alloc(),
-        b"CREATE TABLE t (k INTEGER)\ncreate table T (k integer);\nINSERT INTO t VALUES (1)\nINSERT INTO t VALUES (1)",
-        b"1.1 created\n1.2 error table exists\n1.3 rows 1\n1.4 error duplicate\n",
-        4,
-    )?;
-    gives(
-        &rt,
-        rt.alloc(),
-        b"SELECT * FROM nobody WHERE k = 1\nCREATE TABLE t (k CHAR(33))",
-        b"1.1 error no table\n1.2 error bad shape\n",
-        2,
-    )
-}
-
-#[test]
-fn shapes_of_tables(rt: HostRuntime) -> Result<(), Fail> {
-    gives(
-        &rt,
-        rt.alloc(),
-        b"CREATE TABLE t (k CHAR(0))\nCREATE TABLE t (k CHAR(33))\nCREATE TABLE t (k INTEGER, k INTEGER)\nCREATE TABLE t (k INTEGER, c CHAR(0))\nCREATE TABLE t (k INTEGER, c CHAR(797))",
-        b"1.1 error bad shape\n1.2 error bad shape\n1.3 error bad shape\n1.4 error bad shape\n1.5 error bad shape\n",
-        5,
-    )?;
-    gives(
-        &rt,
-        rt.alloc(),
-        b"CREATE TABLE t (a INTEGER, b INTEGER, c INTEGER, d INTEGER, e INTEGER, f INTEGER, g INTEGER, h INTEGER, i INTEGER, j INTEGER, k INTEGER, l INTEGER, m INTEGER, n INTEGER, o INTEGER, p INTEGER, q INTEGER)\nCREATE TABLE t (k INTEGER, c CHAR(796))\nCREATE TABLE u (k CHAR(32), c CHAR(1))",
-        b"1.1 error bad shape\n1.2 created\n1.3 created\n",
-        3,
-    )
-}
-
-#[test]
-fn shapes_of_rows_and_conditions(rt: HostRuntime) -> Result<(), Fail> {
-    gives(
-        &rt,
-        rt.alloc(),
-        b"CREATE TABLE t (k INTEGER, c CHAR(2))\nINSERT INTO t VALUES (7)\nINSERT INTO t VALUES (7, 'a', 1)\nINSERT INTO t VALUES (7, 7)\nINSERT INTO t VALUES ('7', 'a')\nINSERT INTO t VALUES (7, 'abc')\nINSERT INTO t VALUES (7, 'ab   ')",
-        b"1.1 created\n1.2 error bad shape\n1.3 error bad shape\n1.4 error bad shape\n1.5 error bad shape\n1.6 error bad shape\n1.7 rows 1\n",
-        7,
-    )?;
-    gives(
-        &rt,
-        rt.alloc(),
-        b"CREATE TABLE t (k INTEGER, c CHAR(2))\nSELECT * FROM t WHERE z = 7\nSELECT * FROM t WHERE k = '7'\nSELECT * FROM t WHERE c = 7\nSELECT * FROM t WHERE c = 'abc'\nSELECT * FROM t WHERE c = 'ab'\nDELETE FROM t WHERE z = 4\nDELETE FROM u WHERE k = 4\nINSERT INTO u VALUES (4)",
-        b"1.1 created\n1.2 error bad shape\n1.3 error bad shape\n1.4 error bad shape\n1.5 error bad shape\n1.6 rows 0\n1.7 error bad shape\n1.8 error no table\n1.9 error no table\n",
-        9,
-    )
-}
-
-#[test]
-fn rows_in_the_order_of_their_keys(rt: HostRuntime) -> Result<(), Fail> {
-    gives(
-        &rt,
-        rt.alloc(),
-        b"CREATE TABLE t (k INTEGER, v INTEGER)\nINSERT INTO t VALUES (3, 1)\nINSERT INTO t VALUES (-5, 1)\nINSERT INTO t VALUES (2147483647, 1)\nINSERT INTO t VALUES (0, 1)\nINSERT INTO t VALUES (-2147483647, 1)\nSELECT * FROM t WHERE v = 1",
-        b"1.1 created\n1.2 rows 1\n1.3 rows 1\n1.4 rows 1\n1.5 rows 1\n1.6 rows 1\n1.7 -2147483647|1|\n1.7 -5|1|\n1.7 0|1|\n1.7 3|1|\n1.7 2147483647|1|\n1.7 rows 5\n",
-        7,
-    )
-}
-
-#[test]
-fn values_as_they_are_printed(rt: HostRuntime) -> Result<(), Fail> {
-    gives(
-        &rt,
-        rt.alloc(),
-        b"CREATE TABLE t (k INTEGER, c CHAR(9))\nINSERT INTO t VALUES (-2147483647, 'a|b\\c''d ')\nSELECT * FROM t WHERE k = -2147483647",
-        b"1.1 created\n1.2 rows 1\n1.3 -2147483647|a\\|b\\\\c'd|\n1.3 rows 1\n",
-        3,
-    )
+// One after another over a disk that was formatted.
+fn follow(rt: &impl Abort, alloc: Global, scripts: &[Worked]) -> Result<(), Fail> {
+    let mut disk = formatted(alloc)?;
+    for worked in scripts {
+        disk = gives(rt, alloc, disk, worked)?;
+    }
+    Ok(())
 }
 
 // A sink that took the lines of this reply to statement 3.
@@ -202,18 +189,11 @@ fn refuses(rt: &impl Abort, ended: Run, status: Status, line: &[u8]) {
 #[test]
 fn words_and_scripts_that_are_none(rt: HostRuntime) -> Result<(), Fail> {
     let alloc = rt.alloc();
-    let ended = run(alloc, empty(alloc, &[])?, "sprint", FIRST, &[], &[])?;
+    let ended = run_word(alloc, "sprint", empty(alloc, &[])?, FIRST)?;
     refuses(&rt, ended, Status::BadWords, b"ids: 1 bad words\n");
     let mut longer = FIRST.to_vec(alloc)?;
     longer.extend_from_slice(b"\nUPDATE t SET c = 'x'")?;
-    let ended = run(
-        alloc,
-        empty(alloc, &[])?,
-        "run",
-        longer.as_slice(),
-        &[],
-        &[],
-    )?;
+    let ended = run(alloc, empty(alloc, &[])?, longer.as_slice())?;
     let bad = Status::BadScript {
         byte: 120,
         why: Why::Wrong,
@@ -225,11 +205,11 @@ fn words_and_scripts_that_are_none(rt: HostRuntime) -> Result<(), Fail> {
 #[test]
 fn disks_sources_and_sinks_that_fail(rt: HostRuntime) -> Result<(), Fail> {
     let alloc = rt.alloc();
-    let ended = run(alloc, formatted(alloc)?, "run", FIRST, &[1], &[])?;
+    let ended = run_first(alloc, formatted(alloc)?, &[1], &[])?;
     refuses(&rt, ended, Status::SourceFault, b"ids: 6 source fault\n");
-    let ended = run(alloc, formatted(alloc)?, "run", FIRST, &[], &[1])?;
+    let ended = run_first(alloc, formatted(alloc)?, &[], &[1])?;
     refuses(&rt, ended, Status::SinkFault, b"");
-    let ended = run(alloc, empty(alloc, &[1])?, "init", b"", &[], &[])?;
+    let ended = run_word(alloc, "init", empty(alloc, &[1])?, b"")?;
     refuses(&rt, ended, Status::DiskFault, b"ids: 3 disk fault\n");
     Ok(())
 }
@@ -238,11 +218,11 @@ fn disks_sources_and_sinks_that_fail(rt: HostRuntime) -> Result<(), Fail> {
 fn disks_that_are_formatted_or_not(rt: HostRuntime) -> Result<(), Fail> {
     let alloc = rt.alloc();
     let zeros = MemDisk::new(alloc, &[3, 2], Vec::new(alloc))?;
-    let ended = run(alloc, zeros, "run", FIRST, &[], &[])?;
+    let ended = run(alloc, zeros, FIRST)?;
     refuses(&rt, ended, Status::NotFormatted, b"ids: 8 not formatted\n");
-    let ended = run(alloc, empty(alloc, &[])?, "init", b"", &[], &[])?;
+    let ended = run_word(alloc, "init", empty(alloc, &[])?, b"")?;
     assert_eq!(rt; ended.status, Status::Done);
-    let ended = run(alloc, ended.disk, "init", b"", &[], &[])?;
+    let ended = run_word(alloc, "init", ended.disk, b"")?;
     refuses(
         &rt,
         ended,
@@ -252,74 +232,50 @@ fn disks_that_are_formatted_or_not(rt: HostRuntime) -> Result<(), Fail> {
     Ok(())
 }
 
-#[test]
-fn what_was_committed_is_there_again(rt: HostRuntime) -> Result<(), Fail> {
-    let alloc = rt.alloc();
-    let disk = gives_over(
-        &rt,
-        alloc,
-        formatted(alloc)?,
-        b"CREATE TABLE t (k INTEGER, c CHAR(4))\nINSERT INTO t VALUES (7, 'ab')\nBEGIN WORK\nINSERT INTO t VALUES (8, 'cd')",
-        b"1.1 created\n1.2 rows 1\n1.3 begun\n1.4 rows 1\n",
-        2,
-    )?;
-    gives_over(
-        &rt,
-        alloc,
-        disk,
-        b"SELECT * FROM t WHERE k = 7\nSELECT * FROM t WHERE k = 8",
-        b"1.1 7|ab|\n1.1 rows 1\n1.2 rows 0\n",
-        2,
-    )?;
-    Ok(())
-}
+const COMMITTED: [Worked; 2] = [
+    Worked {
+        name: "a row that is committed, and one that is not",
+        script: b"CREATE TABLE t (k INTEGER, c CHAR(4))\nINSERT INTO t VALUES (7, 'ab')\nBEGIN WORK\nINSERT INTO t VALUES (8, 'cd')",
+        text: b"1.1 created\n1.2 rows 1\n1.3 begun\n1.4 rows 1\n",
+        entries: 2,
+    },
+    Worked {
+        name: "what is there again",
+        script: b"SELECT * FROM t WHERE k = 7\nSELECT * FROM t WHERE k = 8",
+        text: b"1.1 7|ab|\n1.1 rows 1\n1.2 rows 0\n",
+        entries: 2,
+    },
+];
 
 #[test]
-fn rows_that_go(rt: HostRuntime) -> Result<(), Fail> {
-    gives(
-        &rt,
-        rt.alloc(),
-        b"CREATE TABLE t (k INTEGER, v INTEGER)\nINSERT INTO t VALUES (1, 10)\nINSERT INTO t VALUES (2, 20)\nBEGIN\nDELETE FROM t WHERE k = 1\nINSERT INTO t VALUES (1, 11)\nINSERT INTO t VALUES (1, 12)\nCOMMIT",
-        b"1.1 created\n1.2 rows 1\n1.3 rows 1\n1.4 begun\n1.5 rows 1\n1.6 rows 1\n1.7 error duplicate\n1.8 committed\n",
-        4,
-    )?;
-    gives(
-        &rt,
-        rt.alloc(),
-        b"CREATE TABLE t (k INTEGER, v INTEGER)\nINSERT INTO t VALUES (1, 7)\nINSERT INTO t VALUES (2, 8)\nINSERT INTO t VALUES (3, 7)\nDELETE FROM t WHERE v = 7\nDELETE FROM t WHERE k = 4\nSELECT * FROM t WHERE v = 7\nSELECT * FROM t WHERE v = 8",
-        b"1.1 created\n1.2 rows 1\n1.3 rows 1\n1.4 rows 1\n1.5 rows 2\n1.6 rows 0\n1.7 rows 0\n1.8 2|8|\n1.8 rows 1\n",
-        8,
-    )
+fn what_was_committed_is_there_again(rt: HostRuntime) -> Result<(), Fail> {
+    follow(&rt, rt.alloc(), &COMMITTED)
 }
+
+const TAKEN_BACK: [Worked; 3] = [
+    Worked {
+        name: "a rollback",
+        script: b"CREATE TABLE t (k INTEGER)\nINSERT INTO t VALUES (1)\nBEGIN\nCREATE TABLE u (k INTEGER)\nINSERT INTO u VALUES (5)\nDELETE FROM t WHERE k = 1\nROLLBACK\nSELECT * FROM t WHERE k = 1\nSELECT * FROM u WHERE k = 5",
+        text: b"1.1 created\n1.2 rows 1\n1.3 begun\n1.4 created\n1.5 rows 1\n1.6 rows 1\n1.7 rolled back\n1.8 1|\n1.8 rows 1\n1.9 error no table\n",
+        entries: 4,
+    },
+    Worked {
+        name: "an end within a transaction",
+        script: b"SELECT * FROM t WHERE k = 1\nSELECT * FROM u WHERE k = 5\nBEGIN\nCREATE TABLE u (k INTEGER)\nDELETE FROM t WHERE k = 1",
+        text: b"1.1 1|\n1.1 rows 1\n1.2 error no table\n1.3 begun\n1.4 created\n1.5 rows 1\n",
+        entries: 2,
+    },
+    Worked {
+        name: "what is there after both",
+        script: b"SELECT * FROM t WHERE k = 1\nSELECT * FROM u WHERE k = 5",
+        text: b"1.1 1|\n1.1 rows 1\n1.2 error no table\n",
+        entries: 2,
+    },
+];
 
 #[test]
 fn what_was_taken_back_is_there_again(rt: HostRuntime) -> Result<(), Fail> {
-    let alloc = rt.alloc();
-    let disk = gives_over(
-        &rt,
-        alloc,
-        formatted(alloc)?,
-        b"CREATE TABLE t (k INTEGER)\nINSERT INTO t VALUES (1)\nBEGIN\nCREATE TABLE u (k INTEGER)\nINSERT INTO u VALUES (5)\nDELETE FROM t WHERE k = 1\nROLLBACK\nSELECT * FROM t WHERE k = 1\nSELECT * FROM u WHERE k = 5",
-        b"1.1 created\n1.2 rows 1\n1.3 begun\n1.4 created\n1.5 rows 1\n1.6 rows 1\n1.7 rolled back\n1.8 1|\n1.8 rows 1\n1.9 error no table\n",
-        4,
-    )?;
-    let disk = gives_over(
-        &rt,
-        alloc,
-        disk,
-        b"SELECT * FROM t WHERE k = 1\nSELECT * FROM u WHERE k = 5\nBEGIN\nCREATE TABLE u (k INTEGER)\nDELETE FROM t WHERE k = 1",
-        b"1.1 1|\n1.1 rows 1\n1.2 error no table\n1.3 begun\n1.4 created\n1.5 rows 1\n",
-        2,
-    )?;
-    gives_over(
-        &rt,
-        alloc,
-        disk,
-        b"SELECT * FROM t WHERE k = 1\nSELECT * FROM u WHERE k = 5",
-        b"1.1 1|\n1.1 rows 1\n1.2 error no table\n",
-        2,
-    )?;
-    Ok(())
+    follow(&rt, rt.alloc(), &TAKEN_BACK)
 }
 
 // A source that never ends, and does not tell its bytes.
@@ -341,17 +297,7 @@ impl Source for Endless {
 #[test]
 fn a_source_that_never_ends(rt: HostRuntime) -> Result<(), Fail> {
     let alloc = rt.alloc();
-    let mut words = Vec::new(alloc);
-    words.push(String::from_str(alloc, "run")?)?;
-    let sink = MemSink::new(alloc, Vec::new(alloc));
-    let ended = server(
-        alloc,
-        words.as_slice(),
-        &mut Endless,
-        empty(alloc, &[])?,
-        sink,
-        &OpenGate,
-    );
+    let ended = run_from(alloc, "run", &mut Endless, empty(alloc, &[])?, &[])?;
     assert_eq!(rt; ended.status, Status::TooLong);
     assert_eq!(rt; ended.out.taken(), b"ids: 7 script too long\n".as_slice());
     Ok(())

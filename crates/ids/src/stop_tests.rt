@@ -2,16 +2,14 @@
 ghost use Rattle.std.specs.Prelude.{◌≤◌, IfOk};
 ghost use Rattle.ids_engine.specs.Plans.{IsPlan};
 
+use crate::runs::{Run, run};
 use ids_base::status::Status;
 use ids_engine::{InitPlan, init_disk};
 use ids_model::journal::Committed;
-use ids_outside::{Disk, Leave, MemDisk, MemSink, MemSource, OpenGate, is_image};
-use ids_server::server::{Ended, server};
+use ids_outside::{Disk, Leave, MemDisk, is_image};
 use std::alloc::Global;
 use std::process::Abort;
 use std::test::Fail;
-
-type Run = Ended<MemDisk, MemSink>;
 
 // A small disk: 24 blocks of log, and so many pages of data.
 fn plan(data_pages: u32) -> InitPlan
@@ -38,15 +36,6 @@ fn formatted(alloc: Global, data_pages: u32) -> Result<MemDisk, Fail>
         Ok(()) => Ok(disk),
         Err(_) => Err("not formatted".into()),
     }
-}
-
-/// Runs a script over a disk.
-pub(crate) fn run(alloc: Global, disk: MemDisk, script: &[u8]) -> Result<Run, Fail> {
-    let mut words = Vec::new(alloc);
-    words.push(String::from_str(alloc, "run")?)?;
-    let mut source = MemSource::new(script.to_vec(alloc)?, Vec::new(alloc));
-    let sink = MemSink::new(alloc, Vec::new(alloc));
-    Ok(server(alloc, words.as_slice(), &mut source, disk, sink, &OpenGate))
 }
 
 // What a script prints over the disk as a stop left it.
