@@ -1,5 +1,5 @@
 -- What a directory keeps where the entries under one number change.
-use Rattle.std.proofs.Common.{◌≡◌, ◌≢◌, ℕ, zero, suc, ◌<◌, ◌≤◌, Bool, true, false, ◌||◌, refl, ap, sym, ◌∙◌, subst, List, [], ◌∷◌, ◌++◌, length, set, Option, Some, None, arith, inl, inr, slice_index, get_or-set_same, get_or-set_other, length-append}
+use Rattle.std.proofs.Common.{◌≡◌, ◌≢◌, ℕ, zero, suc, ◌<◌, Bool, true, false, ◌||◌, refl, ap, sym, ◌∙◌, subst, List, [], ◌∷◌, ◌++◌, length, set, Option, Some, None, arith, inl, inr, slice_index, get_or-set_same, get_or-set_other, length-append}
 use Rattle.std.proofs.Common.{Result, Ok, Err, OnErr}
 use Rattle.std.proofs.Math.ListN.{length-set}
 use Rattle.std.specs.List.{slice_get, list_any}

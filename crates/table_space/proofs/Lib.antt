@@ -14,3 +14,4 @@ pub mod Counting
 pub mod Counts
 pub mod Telling
 pub mod Owned
+pub mod Reserving

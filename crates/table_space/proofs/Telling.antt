@@ -8,11 +8,12 @@ use Rattle.table_space.specs.declared.entry.Keyed.{Keyed}
 use Rattle.table_space.specs.declared.entry.Held.{Held}
 use Rattle.table_space.specs.declared.entry.Held.TheVariants.{Nowhere, Emptied, Filled}
 use Rattle.table_space.specs.declared.slot.Slot.{Slot}
-use Rattle.table_space.specs.Entries.{is_in, is_gone_from, blocks, fills}
-use Rattle.table_space.specs.Slots.{reserves, reserves_for, known_fills, known_blocks, one, how_many, IsCounted}
-use Rattle.table_space.specs.Fronts.{IsFilled}
+use Rattle.table_space.specs.Entries.{is_in, is_at, is_gone_from, has_row, blocks, fills}
+use Rattle.table_space.specs.Slots.{reserves, reserves_for, is_some_known, known_taken, may_be_left, known_blocks, one, how_many, IsCounted}
+use Rattle.table_space.specs.Fronts.{IsFilled, IsTaken}
 use Rattle.table_space.specs.Indexed.{IsIndexed}
 use Rattle.table_space.specs.Numbers.{Numbers, number_of, entries_under}
+use Rattle.table_space.specs.Reserves.{IsReserved}
 use Rattle.table_space.specs.Seen.{IsBlocked}
 use Rattle.table_space.proofs.Counting.{count-cons}
 use Rattle.table_space.proofs.Counts.{many-cons}
@@ -86,6 +87,21 @@ not-its t tx ne row e = at (reserves row e) (e.tx == t) (e.tx == tx) refl refl
     at true true false be ce = omega arith
     at true true true be ce = absurd (ne (sym (eqb-true e.tx t be) ∙ eqb-true e.tx tx ce))
 
+fills-has : (row : ℕ) (h : Held) → one (is_in row h) ≤ one (is_at row h)
+fills-has row Nowhere = omega arith
+fills-has row (Emptied held) = omega arith
+fills-has row (Filled held) = omega arith
+
+reserves-has : (row : ℕ) (h : Held) (b : Bool) → one (is_gone_from row h && b) ≤ one (is_at row h)
+reserves-has row Nowhere b = omega arith
+reserves-has row (Emptied held) b = at (held == row) b
+  where
+    at : (c b : Bool) → one (c && b) ≤ one c
+    at true true = omega arith
+    at true false = omega arith
+    at false b = omega arith
+reserves-has row (Filled held) b = omega arith
+
 module _ (slot : Slot) (row : ℕ) (ls : List Keyed) (is : IsCounted slot row (λ p. how_many p ls)) where
   -- how many block a slot
   blocking : (tx : ℕ) → how_many (blocks row tx) ls ≡ how_many (fills row) ls + how_many (for_other tx row) ls
@@ -94,13 +110,41 @@ module _ (slot : Slot) (row : ℕ) (ls : List Keyed) (is : IsCounted slot row (�
   reserving : (tx : ℕ) → how_many (reserves row) ls ≡ how_many (reserves_for tx row) ls + how_many (for_other tx row) ls
   reserving tx = many-split (reserves row) (reserves_for tx row) (for_other tx row) (λ e. its-or-not (reserves row e) (e.tx == tx)) ls
 
-  -- what is known is so
-  pub fills-told : (b : Bool) → known_fills slot ≡ Some b → b ≡ some_has (fills row) ls
-  fills-told b known = at (nat_lt slot.filled 65535) refl known
+  -- a slot that is known to be taken is
+  filled-some : is_some_known slot.filled ≡ true → 1 ≤ how_many (fills row) ls
+  filled-some known = let some = and_parts (nat_lt 0 slot.filled) (nat_lt slot.filled 65535) known in omega (arith, ltb-true 0 slot.filled some.0, is.filled (ltb-true slot.filled 65535 some.1))
+
+  emptied-some : is_some_known slot.emptied ≡ true → 1 ≤ how_many (reserves_for slot.reserved_for row) ls
+  emptied-some known = let some = and_parts (nat_lt 0 slot.emptied) (nat_lt slot.emptied 65535) known in omega (arith, ltb-true 0 slot.emptied some.0, is.of_one (ltb-true slot.emptied 65535 some.1))
+
+  has-some : (p : Entry → Bool) → 1 ≤ how_many p ls → some_has p ls ≡ true
+  has-some p some = any-many p ls ∙ lt-ltb 0 (how_many p ls) (omega (arith, some))
+
+  pub taken-told : known_taken slot ≡ true → some_has (has_row row) ls ≡ true
+  taken-told known = at (is_some_known slot.filled) (is_some_known slot.emptied) refl refl known
     where
-      at : (k : Bool) → nat_lt slot.filled 65535 ≡ k → (if k then Some (nat_lt 0 slot.filled) else None) ≡ Some b → b ≡ some_has (fills row) ls
-      at false ke h = absurd (cc)
-      at true ke h = let own : nat_lt 0 slot.filled ≡ b = cc in sym own ∙ ap (nat_lt 0) (sym (is.filled (ltb-true slot.filled 65535 ke))) ∙ sym (any-many (fills row) ls)
+      at : (f e : Bool) → is_some_known slot.filled ≡ f → is_some_known slot.emptied ≡ e → (f || e) ≡ true → some_has (has_row row) ls ≡ true
+      at true e fe ee h = has-some (has_row row) (omega (arith, filled-some fe, many-le (fills row) (has_row row) (λ x. fills-has row x.held) ls))
+      at false true fe ee h = has-some (has_row row) (omega (arith, emptied-some ee, many-le (reserves_for slot.reserved_for row) (has_row row) (λ x. reserves-has row x.held (x.tx == slot.reserved_for)) ls))
+      at false false fe ee h = absurd (cc)
+
+  -- one that is reserved for a transaction, and is not taken for one that may be left for it, is filled
+  pub left-told : (tx : ℕ) → may_be_left tx slot ≡ false → some_has (reserves_for tx row) ls ≡ true → some_has (fills row) ls ≡ true
+  left-told tx known some = at (is_some_known slot.filled) (nat_lt 0 slot.emptied) (slot.reserved_for == tx) (nat_lt slot.emptied 65535) refl refl refl refl known
+    where
+      reserved : 1 ≤ how_many (reserves_for tx row) ls
+      reserved = let so : nat_lt 0 (how_many (reserves_for tx row) ls) ≡ true = sym (any-many (reserves_for tx row) ls) ∙ some in omega (arith, ltb-true 0 (how_many (reserves_for tx row) ls) so)
+
+      at : (f e o k : Bool) → is_some_known slot.filled ≡ f → nat_lt 0 slot.emptied ≡ e → (slot.reserved_for == tx) ≡ o → nat_lt slot.emptied 65535 ≡ k
+          → (not f && (e && (o || not k))) ≡ false → some_has (fills row) ls ≡ true
+      at true e o k fe ee oe ke h = has-some (fills row) (filled-some fe)
+      at false false o k fe ee oe ke h =
+          absurd (omega (arith, ltb-false 0 slot.emptied ee, is.emptied (omega (arith, ltb-false 0 slot.emptied ee)), reserving tx, reserved))
+      at false true true k fe ee oe ke h = absurd (cc)
+      at false true false false fe ee oe ke h = absurd (cc)
+      at false true false true fe ee oe ke h =
+          let few : slot.emptied < 65535 = ltb-true slot.emptied 65535 ke in
+          absurd (omega (arith, is.emptied few, is.of_one few, reserving slot.reserved_for, reserved, many-le (reserves_for tx row) (for_other slot.reserved_for row) (not-its tx slot.reserved_for (λ e. eqb-false slot.reserved_for tx oe (sym e)) row) ls))
 
   blocked : (tx : ℕ) → 1 ≤ how_many (fills row) ls + how_many (for_other tx row) ls → true ≡ some_has (blocks row tx) ls
   blocked tx some = sym (any-many (blocks row tx) ls ∙ lt-ltb 0 (how_many (blocks row tx) ls) (omega (arith, some, blocking tx)))
@@ -136,13 +180,15 @@ module _ (slot : Slot) (row : ℕ) (ls : List Keyed) (is : IsCounted slot row (�
                   vacant tx (omega (arith, so, is.of_one few, is.emptied few, ap (λ t. how_many (reserves_for t row) ls) (eqb-true slot.reserved_for tx oe), reserving tx))
               empty so few false o ee oe = vacant tx (omega (arith, so, ltb-false 0 slot.emptied ee, is.emptied few, reserving tx))
 
--- where it is told whether a key has such an entry, it is told whether the slot is filled or blocked
+-- what is told of all keys' entries is so of some key's
 module _ {numbers : Numbers} {ls : List Keyed} {marks : List ℕ} (is : IsIndexed numbers ls marks) (row : ℕ) where
-  pub filled-seen : (b : Bool) → b ≡ some_has (fills row) ls → IsTrue b ↔ IsFilled (λ t k. entries_under ls (number_of numbers t k)) row
-  filled-seen b so = (
-    λ t. let f = any-seen is (fills row) (sym so ∙ t) in record { table = f.0; key = f.1; by = f.2 },
-    λ f. so ∙ seen-any ls (fills row) _ f.by,
-  )
+  pub taken-seen : some_has (has_row row) ls ≡ true → IsTaken (λ t k. entries_under ls (number_of numbers t k)) row
+  taken-seen so = let f = any-seen is (has_row row) so in record { table = f.0; key = f.1; by = f.2 }
+
+  pub left-seen : (slot : Slot) → IsCounted slot row (λ p. how_many p ls) → (tx : ℕ) → may_be_left tx slot ≡ false → IsReserved (λ t k. entries_under ls (number_of numbers t k)) row tx → IsFilled (λ t k. entries_under ls (number_of numbers t k)) row
+  left-seen slot counted tx known r =
+      let f = any-seen is (fills row) (left-told slot row ls counted tx known (seen-any ls (reserves_for tx row) _ r.by)) in
+      record { table = f.0; key = f.1; by = f.2 }
 
   pub blocked-seen : (tx : ℕ) (b : Bool) → b ≡ some_has (blocks row tx) ls → IsTrue b ↔ IsBlocked (λ t k. entries_under ls (number_of numbers t k)) row tx
   blocked-seen tx b so = (

@@ -8,9 +8,11 @@ pub mod Least
 pub mod Marks
 pub mod Noted
 pub mod Numbers
+pub mod Opened
 pub mod Owners
 pub mod PageMarks
 pub mod Places
+pub mod Reserves
 pub mod Rooms
 pub mod Seen
 pub mod Slots

@@ -1,5 +1,5 @@
 -- What is known of slots without a look at the entries.
-use Rattle.std.specs.Prelude.{◌≡◌, ℕ, ◌+◌, ◌-◌, ◌<◌, ◌≤◌, Bool, true, not, ◌&&◌, ◌==◌, List, Option, Some, None, min, nat_lt, slice_index_or, if◌then◌else◌}
+use Rattle.std.specs.Prelude.{◌≡◌, ℕ, ◌+◌, ◌-◌, ◌<◌, ◌≤◌, Bool, true, not, ◌&&◌, ◌||◌, ◌==◌, List, Option, Some, None, min, nat_lt, slice_index_or, if◌then◌else◌}
 use Rattle.std.specs.List.{count_by, sum_by}
 use Rattle.table_space.specs.declared.entry.Entry.{Entry}
 use Rattle.table_space.specs.declared.entry.Keyed.{Keyed}
@@ -66,10 +66,19 @@ left row e slot = if fills row e then filled_less slot else if reserves row e th
 abbrev pub ended : ℕ → ℕ → Slot → Entry → Slot
 ended row tx slot e = if stays tx e then slot else left row e slot
 
--- whether the slot is filled, where that is known; and whether a transaction may not have it
-abbrev pub known_fills : Slot → Option Bool
-known_fills slot = if nat_lt slot.filled 65535 then Some (nat_lt 0 slot.filled) else None
+-- a count is known, and something is counted
+abbrev pub is_some_known : ℕ → Bool
+is_some_known count = nat_lt 0 count && nat_lt count 65535
 
+-- the slot is known to be taken
+abbrev pub known_taken : Slot → Bool
+known_taken slot = is_some_known slot.filled || is_some_known slot.emptied
+
+-- a transaction may have the slot reserved, and it is not known to be filled
+abbrev pub may_be_left : ℕ → Slot → Bool
+may_be_left tx slot = not (is_some_known slot.filled) && (nat_lt 0 slot.emptied && (slot.reserved_for == tx || not (nat_lt slot.emptied 65535)))
+
+-- whether a transaction may not have the slot, where that is known
 abbrev pub known_blocks : ℕ → Slot → Option Bool
 known_blocks tx slot =
     if nat_lt 0 slot.filled && nat_lt slot.filled 65535

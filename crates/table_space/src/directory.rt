@@ -1,13 +1,14 @@
 //! The directory of keys.
-ghost use Rattle.std.specs.Prelude.{◌≡◌, ◌≢◌, ◌&&◌, ◌++◌, ◌∷◌, ◌<◌, ◌≤◌, ◌^◌, [], ◌↔◌, ℕ, true, None, Some, IfOk, OnOk, OnErr, IsTrue, length};
+ghost use Rattle.std.specs.Prelude.{◌≡◌, ◌≢◌, ◌&&◌, ◌++◌, ◌∷◌, ◌<◌, ◌≤◌, ◌^◌, [], ◌↔◌, ℕ, true, false, None, Some, IfOk, OnOk, OnErr, IsTrue, length};
 ghost use Rattle.std.specs.List.{list_any, slice_get};
 ghost use Rattle.ids_base.specs.declared.lock.Key.{Key as TheKey};
-ghost use Rattle.table_space.specs.Entries.{blocks, fills, stays};
+ghost use Rattle.table_space.specs.Entries.{blocks, stays};
 ghost use Rattle.ids_base.specs.RowIds.{row_number};
-ghost use Rattle.table_space.specs.Fronts.{AreFilled, IsFilled};
+ghost use Rattle.table_space.specs.Fronts.{AreTaken, IsTaken, IsFilled};
 ghost use Rattle.table_space.specs.Indexed.{IsIndexed};
 ghost use Rattle.table_space.specs.Numbers.{number_of, entries_in};
 ghost use Rattle.table_space.specs.Noted.{row_of, made, noted, has_entry_for, is_alone};
+ghost use Rattle.table_space.specs.Reserves.{AreKept, IsTold, IsReserved, AreMarked};
 ghost use Rattle.table_space.specs.Seen.{Changes, IsSame, Ends, IsBlocked};
 ghost use Rattle.table_space.specs.Slots.{AreCounts};
 
@@ -15,6 +16,7 @@ use crate::entries;
 use crate::entries::FREE;
 use crate::entry::{Entry, Keyed};
 use crate::marks::Marks;
+use crate::reserves::Reserved;
 use crate::slots::Slots;
 use ids_base::lock::Key;
 use ids_base::memory::Memory;
@@ -247,30 +249,68 @@ impl Directory {
         self.marks.set(number, marks);
     }
 
-    /// Up to where the slots of a row's page are filled, no further than they were used, where they are up to one and the row is there. Looks as
-    /// `blocks` does at each slot but the row's that it finds filled, and at one more.
-    pub(crate) fn filled_to(&self, row: RowId, from: u8, used: u8) -> u8
-        requires filled { AreFilled (entries_at self.now) row.page from }
-        requires here { IsFilled (entries_at self.now) (row_number row.page row.slot) }
-        ensures { AreFilled (entries_at self.now) row.page result }
+    /// Up to where the slots of a row's page are taken, no further than they were used, where they are up to one and the row's is. Constant time
+    /// for each slot that it finds taken, and for one more; takes no slot for taken of which nothing is known.
+    pub(crate) fn taken_to(&self, row: RowId, from: u8, used: u8) -> u8
+        requires taken { AreTaken (entries_at self.now) row.page from }
+        requires here { IsTaken (entries_at self.now) (row_number row.page row.slot) }
+        ensures { AreTaken (entries_at self.now) row.page result }
     {
         let mut last = from;
         while last < used
-            && (last + 1 == row.slot || self.fills(row.page * 256 + u32::from(last) + 1))
+            && (last + 1 == row.slot || self.takes(row.page * 256 + u32::from(last) + 1))
         {
             last += 1;
         }
         last
     }
 
-    // Whether an entry fills the slot. Constant time; where those that do are no longer counted, linear in all entries.
-    fn fills(&self, row: u32) -> bool
-        ensures { IsTrue result ↔ IsFilled (entries_at self.now) row }
+    // Whether an entry is known to have the slot. Constant time.
+    fn takes(&self, row: u32) -> bool
+        ensures { IsTrue result → IsTaken (entries_at self.now) row }
     {
-        match self.slots.at(row).fills() {
-            Some(known) => known,
-            None => filled(&self.listed, row),
+        self.slots.at(row).is_taken()
+    }
+
+    /// Up to where a page, whose slots were used up to one, has no slot that may be reserved for a transaction and is not known to be filled.
+    /// Linear in the used slots.
+    pub(crate) fn kept_to(&self, page: u32, used: u8, tx: TxNo) -> u8
+        requires { page < 2 ^ 24 }
+        ensures kept { AreKept (entries_at self.now) page result tx }
+        ensures within { result ≤ used }
+    {
+        let mut last = 0;
+        while last < used && !self.may_be_left(page * 256 + u32::from(last) + 1, tx) {
+            last += 1;
         }
+        last
+    }
+
+    // Whether the slot may be reserved for a transaction, and is not known to be filled. Constant time.
+    fn may_be_left(&self, row: u32, tx: TxNo) -> bool
+        ensures { result ≡ false → IsReserved (entries_at self.now) row tx → IsFilled (entries_at self.now) row }
+    {
+        self.slots.at(row).may_be_left(tx)
+    }
+
+    /// The marks of a page with this owner, whose slots were used up to one. Linear in the used slots.
+    pub(crate) fn reserved_in(&self, page: u32, used: u8, owner: Option<TableNo>) -> Reserved
+        requires { page < 2 ^ 24 }
+        ensures { (slot tx : ℕ) → 1 ≤ slot → slot ≤ used → IsTold (entries_at self.now) result owner (row_number page slot) tx }
+    {
+        let mut marks = Reserved::NONE;
+        for slot in 1..u32::from(used) + 1 {
+            marks = self.with_row(marks, page * 256 + slot, owner);
+        }
+        marks
+    }
+
+    // The marks with those that a slot of a page with this owner gives. Constant time.
+    fn with_row(&self, marks: Reserved, row: u32, owner: Option<TableNo>) -> Reserved
+        ensures here { (tx : ℕ) → IsTold (entries_at self.now) result owner row tx }
+        ensures kept { (tx : ℕ) → AreMarked marks owner tx → AreMarked result owner tx }
+    {
+        marks.with_slot(self.slots.at(row), owner)
     }
 
     /// Whether an entry fills the slot, or reserves it for a transaction other than this one. Constant time; where those that do are no longer
@@ -308,13 +348,4 @@ fn blocked(listed: &[Keyed], row: u32, tx: TxNo) -> bool
     ensures { result ≡ list_any (λ l. list_any (blocks row tx) l.entries.items) listed.now }
 {
     listed.iter().any(|keyed| entries::some_block(keyed.entries.as_slice(), row, tx))
-}
-
-// Whether an entry fills a slot. Linear in all entries.
-fn filled(listed: &[Keyed], row: u32) -> bool
-    ensures { result ≡ list_any (λ l. list_any (fills row) l.entries.items) listed.now }
-{
-    listed
-        .iter()
-        .any(|keyed| entries::some_fill(keyed.entries.as_slice(), row))
 }

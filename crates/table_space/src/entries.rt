@@ -3,7 +3,7 @@ ghost use Rattle.std.specs.Prelude.{◌≡◌, ◌&&◌, ◌<◌, true, ℕ, ◌
 ghost use Rattle.std.specs.Prelude.{position};
 ghost use Rattle.std.specs.List.{list_any};
 ghost use Rattle.std.specs.Int.{bit_at};
-ghost use Rattle.table_space.specs.Entries.{has_row, is_new, blocks, fills};
+ghost use Rattle.table_space.specs.Entries.{has_row, is_new, blocks};
 ghost use Rattle.table_space.specs.Noted.{row_of, made, changed, noted, has_entry_for, is_alone};
 ghost use Rattle.table_space.specs.Indexed.{AreMarks, goes};
 ghost use Rattle.table_space.specs.Slots.{IsExchanged};
@@ -164,11 +164,4 @@ pub(crate) fn some_block(entries: &[Entry], row: u32, tx: TxNo) -> bool
     ensures { result ≡ list_any (blocks row tx) entries.now }
 {
     entries.iter().any(|entry| entry.blocks(row, tx))
-}
-
-/// Whether one of the entries fills a slot. Linear.
-pub(crate) fn some_fill(entries: &[Entry], row: u32) -> bool
-    ensures { result ≡ list_any (fills row) entries.now }
-{
-    entries.iter().any(|entry| entry.fills(row))
 }

@@ -1,6 +1,6 @@
 //! What the directory says of a key.
 ghost use Rattle.std.specs.Prelude.{◌≡◌};
-ghost use Rattle.table_space.specs.Entries.{filled_row, is_filled, has_row, is_new, stays, blocks, fills};
+ghost use Rattle.table_space.specs.Entries.{filled_row, is_filled, has_row, is_new, stays, blocks};
 ghost use Rattle.table_space.specs.Noted.{met_after};
 
 use ids_base::lock::Key;
@@ -82,13 +82,6 @@ impl Entry {
         ensures { result ≡ stays tx self.now }
     {
         matches!(self.held, Held::Filled(_)) || self.tx != tx
-    }
-
-    /// Whether the entry fills the slot. Constant time.
-    pub(crate) fn fills(&self, row: u32) -> bool
-        ensures { result ≡ fills row self.now }
-    {
-        matches!(self.held, Held::Filled(held) if held == row)
     }
 
     /// Whether a transaction may not have the slot for this entry: it is filled by it, or reserved by it for another. Constant time.

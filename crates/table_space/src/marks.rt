@@ -55,8 +55,8 @@ impl Marks {
         Ok(longer)
     }
 
-    // The marks of a place.
-    fn get(&self, place: usize) -> u64
+    /// The marks of a place. Constant time.
+    pub(crate) fn get(&self, place: usize) -> u64
         requires { place < length self.now }
         ensures { result ≡ slice_index self.now place }
     {
@@ -118,8 +118,17 @@ fn write(nodes: &mut [u64], width: usize, place: usize, marks: u64)
     }
 }
 
-// Whether a set has a mark.
-fn has(marks: u64, mark: u32) -> bool
+/// A set with a mark more. Constant time.
+pub(crate) fn with(marks: u64, mark: u32) -> u64
+    requires { mark < 64 }
+    ensures here { bit_at result mark ≡ 1 }
+    ensures kept { (other : ℕ) → bit_at marks other ≡ 1 → bit_at result other ≡ 1 }
+{
+    marks | 1 << mark
+}
+
+/// Whether a set has a mark. Constant time.
+pub(crate) fn has(marks: u64, mark: u32) -> bool
     requires { mark < 64 }
     ensures { result ≡ (bit_at marks mark == 1) }
 {

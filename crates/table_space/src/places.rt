@@ -34,9 +34,10 @@ impl TableSpace {
 
     /// The place for a new row of a table: the least row id among the slots of the table's pages that no entry fills or reserves for
     /// another transaction; where there is none, slot 1 of the least page without an owner. Answers `NoSpace` exactly where neither is
-    /// there. Logarithmic in the pages and the tables, and linear in the slots of a page, for each page of the table that is not known to be
-    /// full, up to the place; for a slot whose entries are no longer counted, linear in all entries. Only a table that was entered again, with
-    /// shorter rows, passes over all pages.
+    /// there. Logarithmic in the pages and the tables, and linear in the slots of a page; it passes over no pages but those where a slot is reserved
+    /// for a transaction that has the same mark on the pages of its table: eight times the table's number plus the transaction's, modulo 64. For a
+    /// slot whose entries are no longer counted, linear in all entries. Only a table that was entered again, with shorter rows, passes over all
+    /// pages.
     pub fn place_for(&self, table: TableNo, tx: TxNo) -> Result<RowId, NoSpace>
         requires some { 1 ≤ length_of self.now table }
         requires few { length_of self.now table ≤ 800 }
@@ -88,13 +89,12 @@ impl TableSpace {
     }
 
     // The least row id among the vacant slots of the table's pages.
-    #[tactic(auto, using(crate::proofs::FullPages::full_blocked))]
     fn vacant_place(&self, table: TableNo, slots: u8, tx: TxNo) -> Option<RowId>
         ensures { MatchOption result (HasNoVacant self.now table slots tx) (λ place. IsLeastVacant self.now table slots tx place.page place.slot) }
     {
         let _pages = self.pages();
         let mut from = 1;
-        while let Some(page) = self.ledger.next_page(table, slots, from) {
+        while let Some(page) = self.ledger.next_page(table, slots, tx, from) {
             if self.ledger.owners().get(page) == Some(table) {
                 if let Some(slot) = self.ledger.vacant_slot(page, slots, tx) {
                     return Some(RowId { page, slot });

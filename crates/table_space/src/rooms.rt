@@ -1,4 +1,4 @@
-//! Which pages of each table may have a vacant slot.
+//! Which pages of each table may have a slot that no entry has.
 ghost use Rattle.std.specs.Prelude.{◌≡◌, ◌≤◌, ◌<◌, ◌-◌, ◌/◌, ◌%◌, ◌^◌, ◌+◌, ◌≢◌, ℕ, List, Some, None, IfOk, OnOk, OnErr, IsTrue, MatchOption, length, slice_index, slice_set};
 ghost use Rattle.std.specs.Option.{option_map};
 ghost use Rattle.std.specs.Int.{bit_at};
@@ -18,7 +18,7 @@ const WIDEST: u8 = 255;
 // So many tables share marks.
 const GROUP: u32 = 64;
 
-/// The pages of each table that are not known to be full.
+/// The pages of each table whose slots are not known to be taken, each by an entry that fills or reserves it.
 ///
 /// `marks` has them marked, under the number of a table divided by 64, which 64 tables share, each with a mark of its own; `narrow` has for each
 /// table the fewest slots with which a page of it was left unmarked.
@@ -31,7 +31,7 @@ pub struct Rooms {
 }
 
 impl Rooms {
-    ghost use Rattle.table_space.specs.Rooms.{known_filled, AreKnown, IsNextRoom, AreNoMore};
+    ghost use Rattle.table_space.specs.Rooms.{known_taken, AreKnown, IsNextRoom, AreNoMore};
 
     /// So many pages, and no table. Takes no memory.
     pub(crate) fn new(alloc: Global, pages: u32) -> Rooms
@@ -77,13 +77,13 @@ impl Rooms {
         Ok(())
     }
 
-    /// A page of a table has so many slots, of which the first ones, up to one, are filled: marks it, unless these are all of them; `slots` is 0
+    /// A page of a table has so many slots, of which the first ones, up to one, are taken: marks it, unless these are all of them; `slots` is 0
     /// where that is not known. Logarithmic in the pages and the tables; takes no memory.
     pub(crate) fn mark(&mut self, page: u32, table: TableNo, slots: u8, last: u8)
         requires first { 1 ≤ page }
         requires last { page ≤ self.old.pages }
-        ensures here { known_filled self.new table page ≤ last }
-        ensures others { (p t : ℕ) → 1 ≤ p → p ≢ page → known_filled self.new t p ≤ known_filled self.old t p }
+        ensures here { known_taken self.new table page ≤ last }
+        ensures others { (p t : ℕ) → 1 ≤ p → p ≢ page → known_taken self.new t p ≤ known_taken self.old t p }
         ensures pages { self.new.pages ≡ self.old.pages }
     {
         let full = 0 < slots && slots <= last && narrows(&mut self.narrow, table, slots);
@@ -91,7 +91,7 @@ impl Rooms {
         set(&mut self.marks, group_of(table), page as usize - 1, marks);
     }
 
-    /// The next page from one on that may be the table's and have a vacant slot, where its pages have so many slots. Logarithmic in the pages and
+    /// The next page from one on that may be the table's and have a slot that is not taken, where its pages have so many slots. Logarithmic in the pages and
     /// the tables. Where a page of the table was left unmarked with fewer slots, or the table was not entered, it is the next of all pages.
     pub(crate) fn next(&self, table: TableNo, slots: u8, from: u32) -> Option<u32>
         requires { 1 ≤ from }

@@ -1,6 +1,6 @@
 //! What is known of a slot without a look at the entries.
 ghost use Rattle.std.specs.Prelude.{◌≡◌};
-ghost use Rattle.table_space.specs.Slots.{one_less, filled_more, filled_less, emptied_more, emptied_less, known_fills, known_blocks};
+ghost use Rattle.table_space.specs.Slots.{one_less, filled_more, filled_less, emptied_more, emptied_less, is_some_known, known_taken, may_be_left, known_blocks};
 
 use ids_base::numbers::TxNo;
 
@@ -68,15 +68,27 @@ impl Slot {
         }
     }
 
-    /// Whether an entry fills the slot, where that is known. Constant time.
-    pub(crate) fn fills(self) -> Option<bool>
-        ensures { result ≡ known_fills self }
+    /// Whether an entry is known to fill the slot. Constant time.
+    pub(crate) fn is_filled(self) -> bool
+        ensures { result ≡ is_some_known self.filled }
     {
-        if self.filled < MANY {
-            Some(self.filled > 0)
-        } else {
-            None
-        }
+        is_some_known(self.filled)
+    }
+
+    /// Whether an entry is known to fill the slot or to reserve it. Constant time.
+    pub(crate) fn is_taken(self) -> bool
+        ensures { result ≡ known_taken self }
+    {
+        is_some_known(self.filled) || is_some_known(self.emptied)
+    }
+
+    /// Whether the slot may be reserved for a transaction, and is not known to be filled. Constant time.
+    pub(crate) fn may_be_left(self, tx: TxNo) -> bool
+        ensures { result ≡ may_be_left tx self }
+    {
+        !is_some_known(self.filled)
+            && self.emptied > 0
+            && (self.reserved_for == tx || self.emptied == MANY)
     }
 
     /// Whether an entry fills the slot, or reserves it for a transaction other than this one, where that is known. Constant time.
@@ -91,6 +103,13 @@ impl Slot {
             None
         }
     }
+}
+
+// Whether a count is known, and something is counted.
+fn is_some_known(count: u16) -> bool
+    ensures { result ≡ is_some_known count }
+{
+    0 < count && count < MANY
 }
 
 // A count once there is one less.

@@ -171,8 +171,8 @@ impl TableSpace {
     }
 
     /// Fills or empties the key's entry with this row id, else fills one without a row id and gives it this one; the row's page is the
-    /// table's. Logarithmic in the keys, the pages and the tables, and linear in the key's entries and in the slots that it finds filled from
-    /// the first on that was not known to be; for one of these and the next whose entries are no longer counted, linear in all entries. Takes
+    /// table's. Logarithmic in the keys, the pages and the tables, and linear in the key's entries and in the slots that it finds taken from
+    /// the first on that was not known to be; where the entry is emptied, or slots of the page are reserved, linear in the slots of the page. Takes
     /// no memory.
     pub fn note(&mut self, table: TableNo, row: RowId, key: &Key, filled: bool, tx: TxNo)
         requires found { has_entry_for (row_number row.page row.slot) filled (entries_of self.old table key.now) ≡ true }
@@ -188,7 +188,8 @@ impl TableSpace {
         self.ledger.note(table, key, row, filled, tx, slots);
     }
 
-    /// Gives a page to a table; no entry changes. Logarithmic in the pages and the tables; takes no memory.
+    /// Gives a page to a table; no entry changes. Logarithmic in the pages and the tables, and linear in the slots of the page where some are
+    /// reserved; takes no memory.
     pub fn own(&mut self, table: TableNo, page: u32)
         requires first { 1 ≤ page }
         requires last { page ≤ pages_of self.old }
@@ -200,7 +201,8 @@ impl TableSpace {
     }
 
     /// Drops the empty entries of a transaction, and no others. Logarithmic in the keys, and linear in the key's entries, for each key with an
-    /// empty entry of a transaction whose number is the same modulo 63; takes no memory.
+    /// empty entry of a transaction whose number is the same modulo 63; and logarithmic in the pages and the tables, and linear in the slots of a
+    /// page, for each page with a slot that is reserved for such a transaction, and not filled. Takes no memory.
     pub fn end_tx(&mut self, tx: TxNo)
         ensures ended { Ends (entries_of self.old) (entries_of self.new) tx }
         ensures owners { owners_of self.new ≡ owners_of self.old }

@@ -10,5 +10,7 @@ invariant_of-self-2 c = rw c.enter_table.ensures (
   c.self.invariant.0,
   c.enter_table-2.ensures.pages ∙ c.self.invariant.1,
   c.self.invariant.2,
-  rooms-less c.self.inside.owners c.self.inside.rooms c.enter_table-2.new.self (rw c.enter_table.ensures at c.enter_table-2.ensures.less) c.self.invariant.3,
+  c.self.invariant.3,
+  rooms-less c.self.inside.owners c.self.inside.rooms c.enter_table-2.new.self (rw c.enter_table.ensures at c.enter_table-2.ensures.less) c.self.invariant.4,
+  c.self.invariant.5,
 )
