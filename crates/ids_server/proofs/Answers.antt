@@ -1,11 +1,6 @@
 -- Clauses of answers, put together.
 use Rattle.std.proofs.Common.{Result, Ok, Err, OnOk, OnErr}
 
--- what follows from a clause of each answer that is Ok
-pub on_ok : {T E A B : Type 0} → (r : Result T E) → OnOk r A → (A → B) → OnOk r B
-on_ok (Ok x) a f = f a
-on_ok (Err e) a f = tt
-
 pub on_ok_both : {T E A B C : Type 0} → (r : Result T E) → OnOk r A → OnOk r B → (A → B → C) → OnOk r C
 on_ok_both (Ok x) a b f = f a b
 on_ok_both (Err e) a b f = tt

@@ -2,7 +2,7 @@
 use Rattle.std.proofs.Common.{◌≡◌, ◌∙◌, refl, sym, ap, subst, ℕ, Bool, true, false, List, [], ◌∷◌, ◌++◌, ◌⊎◌, inl, inr, append_assoc, arith}
 use Rattle.std.proofs.lemmas.List.{append-nil}
 use Rattle.ids_outside.specs.Counts.{Rose}
-use Rattle.ids_server.specs.Printing.{IsFront, TakesPart, Carries, IsCaused, Printed, PrinterGrows, PrinterCarries, PrinterIsCaused, PrinterPuts}
+use Rattle.ids_server.specs.Printing.{IsFront, TakesPart, Carries, Printed, PrinterGrows, PrinterCarries, PrinterIsCaused, PrinterPuts}
 
 append-cancel : (front a b : List ℕ) → front ++ a ≡ front ++ b → a ≡ b
 append-cancel [] a b e = e
@@ -27,23 +27,12 @@ front-self text = record { rest = []; is = sym (append-nil text) }
 pub front-front : (a b c : List ℕ) → IsFront a b → IsFront b c → IsFront a c
 front-front a b c h k = record { rest = h.rest ++ k.rest; is = k.is ∙ ap (λ x. x ++ k.rest) h.is ∙ append_assoc a h.rest k.rest }
 
--- what was taken is a front of what is taken now
-pub front-taken : (before after piece : List ℕ) → TakesPart before after piece → IsFront before after
-front-taken before after piece part = record { rest = part.front; is = part.is }
-
 -- what came behind a text, up to a longer text, is a part of the piece between
 pub part-between : (text taken piece : List ℕ) → IsFront text taken → IsFront taken (text ++ piece) → TakesPart text taken piece
 part-between text taken piece h k = record {
   front = h.rest;
   of = record { rest = k.rest; is = append-cancel text piece (h.rest ++ k.rest) (k.is ∙ ap (λ x. x ++ k.rest) h.is ∙ append_assoc text h.rest k.rest) };
   is = h.is;
-}
-
--- a part of the pieces is a front of the text
-pub front-part : (before after piece text : List ℕ) → TakesPart before after piece → text ≡ before ++ piece → IsFront after text
-front-part before after piece text part is = record {
-  rest = part.of.rest;
-  is = is ∙ ap (λ p. before ++ p) part.of.is ∙ sym (append_assoc before part.front part.of.rest) ∙ ap (λ a. a ++ part.of.rest) (sym part.is);
 }
 
 -- bytes that are brought at once, where nothing is gathered
@@ -73,10 +62,6 @@ not-true true h = absurd (h refl)
 not-true false h = refl
 
 module _ {K : Type 0} {tells : Type 0} {taken : K → List ℕ} {faults : K → ℕ} where
-  -- to put nothing
-  pub puts-nothing : (p : Printed K) → PrinterPuts tells taken faults p p []
-  puts-nothing p = record { grows = λ t. front-self (taken p.sink); carries = λ text h. subst (PrinterCarries tells taken p) (sym (append-nil text)) h; caused = λ first h. h }
-
   -- to put one piece and then another
   pub puts-then : (p q r : Printed K) (a b : List ℕ) → PrinterPuts tells taken faults p q a → PrinterPuts tells taken faults q r b → PrinterPuts tells taken faults p r (a ++ b)
   puts-then p q r a b h k = record {

@@ -6,17 +6,13 @@ use Rattle.std.specs.FinMap.{get}
 use Rattle.ids_base.specs.declared.value.Value.{Value}
 use Rattle.ids_base.specs.declared.plan.DataStatement.{DataStatement}
 use Rattle.ids_base.specs.declared.plan.DataStatement.TheVariants.{CreateTable, Insert, Select, Delete}
-use Rattle.ids_base.specs.declared.reply.Reply.{Reply}
 use Rattle.ids_base.specs.declared.reply.Reply.TheVariants.{NoSpace}
-use Rattle.ids_model.specs.Legal.{is_no_space}
-use Rattle.ids_model.proofs.Outcomes.{meaning_has_room}
 use Rattle.ids_model.specs.declared.effect.Effect.{Effect}
 use Rattle.ids_model.specs.declared.outcome.Outcome.{Outcome}
 use Rattle.ids_model.specs.Tables.{Row, Rows, Shape, Name, Tables, shape_at, rows_at}
 use Rattle.ids_model.specs.Rows.{is_shape, is_row_of, is_good_condition}
 use Rattle.ids_model.specs.Meaning.{insert, insert_new, chosen, gone, outcome, one}
 use Rattle.ids_model.specs.Matches.{is_reply_to}
-use Rattle.ids_engine.specs.declared.store.Changed.{Changed}
 use Rattle.ids_engine.specs.declared.store.Changed.TheVariants as came
 use Rattle.ids_engine.specs.Placing.{IsOneChange, TakesRow}
 use Rattle.ids_server.specs.Runners.{Goes}
@@ -101,7 +97,3 @@ may_lack T s o e rows pages is are room =
   where
     never : came.NoSpace rows pages ≡ came.Done → ⊥
     never h = cc
-
--- the meaning never says that there is no room
-pub never_lacks : (T : Tables) (s : DataStatement) (reply : Reply) (rows pages : ℕ) → reply ≡ (one T s).reply → reply ≡ NoSpace rows pages → ⊥
-never_lacks T s reply rows pages is lacks = cc (meaning_has_room T s, ap is_no_space is, ap is_no_space lacks)

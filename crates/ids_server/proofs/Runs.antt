@@ -1,5 +1,5 @@
 -- What a run of a script keeps from its start to its end.
-use Rattle.std.proofs.Common.{◌≡◌, ◌∙◌, refl, sym, ap, subst, ℕ, suc, zero, ◌+◌, ◌<◌, List, [], ◌∷◌, ◌++◌, length, drop, get_or, Option, Some, None, ◌⊎◌, ⊎_elim, add-one, length-append, arith}
+use Rattle.std.proofs.Common.{◌≡◌, ◌∙◌, refl, sym, ap, subst, ℕ, suc, zero, ◌+◌, ◌<◌, List, [], ◌∷◌, ◌++◌, length, drop, get_or, Option, Some, None, ◌⊎◌, ⊎_elim, length-append, arith}
 use Rattle.ids_base.specs.declared.plan.Plan.{Plan}
 use Rattle.ids_base.specs.declared.plan.Plan.TheVariants.{Data, Begin, Commit, Rollback}
 use Rattle.ids_base.specs.declared.status.Status.{Status}
@@ -11,10 +11,10 @@ use Rattle.ids_model.specs.Moves as moves
 use Rattle.ids_model.specs.Moves.{session_now}
 use Rattle.ids_model.specs.Tables.{Tables}
 use Rattle.ids_model.specs.Served.{IsNext}
-use Rattle.sql_reader.specs.Lines.{sessions, texts_of, statements_of, statements_in, text_in}
+use Rattle.sql_reader.specs.Lines.{sessions, texts_of, statements_of, statements_in}
 use Rattle.sql_reader.specs.Plans.{IsPlanOf, Each, IsScriptOf}
 use Rattle.ids_server.specs.declared.runner.Transaction.{Transaction}
-use Rattle.ids_server.specs.Running.{Running, data_by, begin_by, commit_by, rollback_by, Steps, Fails, IsRunning, HasEnded, StepsKeepRunning, FailuresEnd, RunsEnd}
+use Rattle.ids_server.specs.Running.{Running, data_by, begin_by, commit_by, rollback_by, Steps, Fails, IsRunning, HasEnded, FailuresEnd, RunsEnd}
 use Rattle.ids_server.specs.Serving.{AllAnswered, HasRun}
 
 -- no text has two plans

@@ -1,5 +1,5 @@
 -- A statement that stands next in the script keeps what a run keeps.
-use Rattle.std.proofs.Common.{◌≡◌, refl, sym, ap, subst, ◌∙◌, arith, ◌⊎◌, ⊎_elim, ◌≤◌, true, ℕ, List, [], ◌∷◌, ◌++◌, Option, Some, None}
+use Rattle.std.proofs.Common.{◌≡◌, refl, sym, ap, subst, ◌∙◌, arith, ⊎_elim, ◌≤◌, ℕ, List, [], ◌∷◌, ◌++◌, Option, Some, None}
 use Rattle.std.specs.List.{AllByRecursion}
 use Rattle.std.proofs.lemmas.List.{append-nil}
 use Rattle.ids_base.specs.declared.plan.Plan.{Plan}
@@ -15,13 +15,13 @@ use Rattle.ids_model.specs.Tables.{Tables, apply, apply_all}
 use Rattle.ids_model.specs.Undone.{undo_all, ArePast, UndoneAreBack, FittingArePast}
 use Rattle.ids_model.specs.Moves.{EffectsFit}
 use Rattle.ids_model.specs.Meaning.{one}
-use Rattle.ids_model.specs.Legal.{is_no_space, fold_journal}
-use Rattle.ids_model.specs.Matches.{Script, Work, Outside, Inside, is_reply_to}
+use Rattle.ids_model.specs.Legal.{fold_journal}
+use Rattle.ids_model.specs.Matches.{Script, Outside, Inside}
 use Rattle.ids_model.specs.Served as served
 use Rattle.ids_model.specs.Served.{IsServed, entry_now, entry_unanswered, given_now, done_now, IsNext}
-use Rattle.ids_engine.specs.Journals.{IsFrom, IsEntryFrom, IsInTime, IsTimely, AreTimely, IsSettledBy, IsSettled, JournalsGoOn}
+use Rattle.ids_engine.specs.Journals.{IsFrom, IsTimely, AreTimely, IsSettledBy, IsSettled, JournalsGoOn}
 use Rattle.ids_server.specs.declared.runner.Transaction.{Transaction}
-use Rattle.ids_server.specs.Running.{Running, flushed_at, IsOutcome, data_by, begin_by, commit_by, rollback_by, Steps, IsUnanswered, Fails, work_of, effects_of, IsRunning, HasEnded, StepsKeepRunning, FailuresEnd}
+use Rattle.ids_server.specs.Running.{Running, flushed_at, IsOutcome, data_by, begin_by, commit_by, rollback_by, Steps, IsUnanswered, Fails, work_of, effects_of, IsRunning, HasEnded}
 
 -- what the crates below promise of their definitions
 pub record Laws : Type 0 where

@@ -1,19 +1,15 @@
 -- Rows that are taken away one after another, and a store whose transaction is closed.
-use Rattle.std.proofs.Common.{◌≡◌, ◌∙◌, sym, ap, subst, ℕ, ◌+◌, ◌<◌, suc, add-one, List, [], ◌∷◌, length, drop, get_or, Option, Some, None}
+use Rattle.std.proofs.Common.{◌≡◌, ◌∙◌, sym, ap, subst, ℕ, ◌+◌, ◌<◌, suc, add-one, List, [], ◌∷◌, length, drop, get_or}
 use Rattle.std.proofs.Math.Seq.{drop-cons}
 use Rattle.ids_base.specs.declared.plan.DataStatement.{DataStatement}
 use Rattle.ids_base.specs.declared.reply.Reply.TheVariants.{NoSpace}
-use Rattle.ids_outside.specs.Images.{Image}
-use Rattle.chunk_map.specs.declared.layout.Layout.{Layout}
 use Rattle.ids_model.specs.declared.effect.Effect.{Effect}
-use Rattle.ids_model.specs.Tables.{Tables}
 use Rattle.ids_model.specs.Meaning.{one}
 use Rattle.ids_engine.specs.declared.store.Store.{Store}
 use Rattle.ids_engine.specs.declared.store.Changed.{Changed}
 use Rattle.ids_engine.specs.declared.store.Changed.TheVariants as came
 use Rattle.ids_engine.specs.Placing.{IsOwnerFor}
-use Rattle.ids_engine.specs.Survival.{Done}
-use Rattle.ids_engine.specs.Stores.{History, IsHistory, IsStore, OnDone, OnNoSpace}
+use Rattle.ids_engine.specs.Stores.{OnDone, OnNoSpace}
 use Rattle.ids_server.specs.Runners.{IsFullFor, HasNoRoom}
 
 -- the effect at a place stands before those behind it
@@ -27,16 +23,6 @@ on_done change P is holds = subst (λ x. OnDone x P) is holds
 -- and of one that there was no room for
 pub on_no_space : (change : Changed) (P : ℕ → ℕ → Type 0) (rows pages : ℕ) → change ≡ came.NoSpace rows pages → OnNoSpace change P → P rows pages
 on_no_space change P rows pages is holds = subst (λ x. OnNoSpace x P) is holds
-
-no_effects : (l : Layout) (found : Tables) (done : List Done) (effects : List Effect) (current : Option ℕ) (h : History) → current ≡ None → IsHistory ⊥ l found done effects current h → effects ≡ []
-no_effects l found done effects None h is holds = holds.makes
-no_effects l found done effects (Some tx) h is holds = cc
-
--- where no transaction is open, nothing is noted
-pub closed_notes : {D : Type 0} (size : D → ℕ → ℕ) (now : D → ℕ) (image : D → Image) (can_leave : D → Image → Type 0) (left_at : D → ℕ → Image → Type 0) (store : Store) (disk : D)
-    → IsStore ⊥ size now image can_leave left_at store disk → store.current ≡ None → store.undo ≡ []
-closed_notes size now image can_leave left_at store disk sound closed =
-    sound.keeps.undo ∙ no_effects store.layout sound.found sound.done sound.effects store.current sound.keeps.history closed sound.keeps.holds
 
 -- a statement that was told that there is no room
 pub no_room : (store : Store) (statement : DataStatement) (effect : Effect) (r p rows pages : ℕ) → NoSpace r p ≡ NoSpace rows pages → (one store.tables statement).effects ≡ effect ∷ []

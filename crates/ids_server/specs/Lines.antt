@@ -3,7 +3,6 @@ use Rattle.std.specs.Prelude.{ℕ, List, [], ◌∷◌, ◌++◌, codes}
 use Rattle.std.specs.Fmt.{decimal}
 use Rattle.ids_base.specs.declared.status.Why.{Why}
 use Rattle.ids_base.specs.declared.status.Why.TheVariants.{Cut, Wrong}
-use Rattle.ids_base.specs.declared.position.LogPos.{LogPos}
 use Rattle.ids_base.specs.declared.status.Place.{Place}
 use Rattle.ids_base.specs.declared.status.Place.TheVariants.{Identity, Checkpoint, Entry, DataPage, Block, Record, Row}
 use Rattle.ids_base.specs.declared.status.Status.{Status}

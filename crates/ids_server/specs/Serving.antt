@@ -1,5 +1,5 @@
 -- What a command gives back.
-use Rattle.std.specs.Prelude.{◌≡◌, ◌⊎◌, ◌<◌, ◌≤◌, ℕ, Bool, true, false, List, [], length}
+use Rattle.std.specs.Prelude.{◌≡◌, ◌⊎◌, ◌<◌, ℕ, Bool, true, false, List, [], length}
 use Rattle.ids_base.specs.declared.status.Status.{Status}
 use Rattle.ids_base.specs.declared.status.Status.TheVariants.{Done, BadWords, BadScript, DiskFault, Memory, SinkFault, SourceFault, TooLong, NotFormatted, Damaged, AlreadyFormatted, TooSmall, LogFull}
 use Rattle.ids_outside.specs.Counts.{last_count}

@@ -1,8 +1,7 @@
 -- The tree over sets of marks: what a write keeps, and what a node says of the places below it.
-use Rattle.std.proofs.Common.{◌≡◌, ◌≢◌, ◌==◌, Bool, true, false, ℕ, zero, suc, ◌+◌, ◌-◌, ◌*◌, ◌/◌, ◌^◌, ◌<◌, ◌≤◌, refl, ap, sym, ◌∙◌, subst, List, length, set, max, arith, inl, inr, get_or-set_same, get_or-set_other, slice_index}
-use Rattle.std.proofs.Math.ListN.{length-set}
+use Rattle.std.proofs.Common.{◌≡◌, ◌≢◌, ◌==◌, Bool, true, false, ℕ, zero, suc, ◌+◌, ◌-◌, ◌*◌, ◌/◌, ◌^◌, ◌<◌, ◌≤◌, refl, ap, sym, ◌∙◌, subst, List, length, max, arith, inl, inr, slice_index}
 use Rattle.std.proofs.Math.Nat.{mul-le-mul_left, two-pow-succ, pow-suc}
-use Rattle.std.proofs.lemmas.Bool.{cases_lt, cases_eq, eq-eqb, eqb-true}
+use Rattle.std.proofs.lemmas.Bool.{cases_lt, eq-eqb}
 use Rattle.std.proofs.lemmas.Nat.{pow_pos}
 use Rattle.std.proofs.lemmas.Nat.Bits.{bit_at_or, bit_at-lt}
 use Rattle.std.specs.Int.{bit_at}
@@ -12,29 +11,6 @@ use Rattle.table_space.specs.Marks.{IsPower, IsLaw, IsUnmarkedBelow, IsNextBelow
 -- each node but one has the marks of the two below it
 abbrev pub IsLawBut : List ℕ → ℕ → Type 0
 IsLawBut nodes but = (n : ℕ) → 1 ≤ n → 2 * n < length nodes → n ≢ but → slice_index nodes n ≡ bit_or (slice_index nodes (2 * n)) (slice_index nodes (2 * n + 1))
-
--- a place is written
-pub law-place : (nodes : List ℕ) (width place v : ℕ) → IsLaw nodes → length nodes ≡ 2 * width → place < width → IsLawBut (set nodes (width + place) v) ((width + place) / 2)
-law-place nodes width place v law twice within = λ n some low but.
-    let long : 2 * n < length nodes = omega (arith, low, length-set nodes (width + place) v) in
-    let here : n ≢ width + place = omega arith in
-    let left : 2 * n ≢ width + place = omega arith in
-    let right : 2 * n + 1 ≢ width + place = omega arith in
-    rw (get_or-set_other nodes (width + place) n v 0 here, get_or-set_other nodes (width + place) (2 * n) v 0 left, get_or-set_other nodes (width + place) (2 * n + 1) v 0 right) (law n some long)
-
--- a node is written from the two below it
-pub law-above : (nodes : List ℕ) (node : ℕ) → 1 < node → node < length nodes → IsLawBut nodes (node / 2)
-    → IsLawBut (set nodes (node / 2) (bit_or (slice_index nodes (2 * (node / 2))) (slice_index nodes (2 * (node / 2) + 1)))) (node / 2 / 2)
-law-above nodes node some within law = λ n low long but.
-    let v = bit_or (slice_index nodes (2 * (node / 2))) (slice_index nodes (2 * (node / 2) + 1)) in
-    let fits : 2 * n < length nodes = omega (arith, long, length-set nodes (node / 2) v) in
-    let left : 2 * n ≢ node / 2 = omega arith in
-    let right : 2 * n + 1 ≢ node / 2 = omega arith in
-    elim (cases_eq n (node / 2)) [
-      | inl same ↦ rw (get_or-set_other nodes (node / 2) (2 * n) v 0 left, get_or-set_other nodes (node / 2) (2 * n + 1) v 0 right)
-          (let inside : node / 2 < length nodes = omega arith in rw (same, get_or-set_same nodes (node / 2) v 0 inside) refl)
-      | inr other ↦ rw (get_or-set_other nodes (node / 2) n v 0 other, get_or-set_other nodes (node / 2) (2 * n) v 0 left, get_or-set_other nodes (node / 2) (2 * n + 1) v 0 right) (law n low fits other)
-    ]
 
 -- half of a power of two
 pub power-half : (width : ℕ) → IsPower width → width ≢ 1 → IsPower (width / 2) × (width ≡ width / 2 + width / 2) × (1 ≤ width / 2)
@@ -47,9 +23,6 @@ power-half width p ne = at p.of p.is
         let some : 1 ≤ 2 ^ k = pow_pos k in
         let half : width / 2 ≡ 2 ^ k = omega arith in
         (record { of = k; is = half }, omega arith, omega arith)
-
-pub power-some : (width : ℕ) → IsPower width → 1 ≤ width
-power-some width p = let some : 1 ≤ 2 ^ p.of = pow_pos p.of in omega (arith, p.is)
 
 pub power-double : (width : ℕ) → IsPower width → IsPower (width * 2)
 power-double width p = record { of = suc p.of; is = ap (λ n. n * 2) p.is ∙ sym (pow-suc 2 p.of) }
@@ -66,9 +39,6 @@ right-at node w p = omega arith
 
 node-within : (node w len : ℕ) → 1 ≤ w → node * (w + w) + (w + w) ≤ len → 2 * node + 1 < len
 node-within node w len some fits = let le : node * 1 ≤ node * w = mul-le-mul_left node some in omega arith
-
-pub node-low : (node w len : ℕ) → 1 ≤ w → node * w + w ≤ len → node < len
-node-low node w len some fits = let le : node * 1 ≤ node * w = mul-le-mul_left node some in omega arith
 
 -- where a node lacks a mark, all places below it do
 pub below-none : (nodes : List ℕ) (mark : ℕ) → IsLaw nodes → (k : ℕ) (node width : ℕ) → width ≡ 2 ^ k → 1 ≤ node → node * width + width ≤ length nodes → bit_at (slice_index nodes node) mark ≡ 0
@@ -101,9 +71,6 @@ mark-not n mark r e f =
     let few : bit_at n mark < 2 = bit_at-lt n mark in
     let ne : bit_at n mark ≢ 1 = λ same. let clash : true ≡ false = sym (eq-eqb (bit_at n mark) 1 same) ∙ sym e ∙ f in cc in
     omega arith
-
-pub mark-there : (n mark : ℕ) (r : Bool) → r ≡ (bit_at n mark == 1) → r ≡ true → bit_at n mark ≡ 1
-mark-there n mark r e f = eqb-true (bit_at n mark) 1 (sym e ∙ f)
 
 module _ (nodes : List ℕ) (mark node width half from : ℕ) (two : width ≡ half + half) where
   at-left : (p : ℕ) → 2 * node * half + p ≡ node * width + p

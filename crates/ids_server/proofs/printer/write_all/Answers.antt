@@ -1,7 +1,6 @@
-use Rattle.std.proofs.Common.{◌≡◌, ◌≤◌, ◌+◌, ◌-◌, ◌∙◌, refl, sym, ap, ℕ, List, length, take, drop, ◌++◌, append_assoc, arith, length-drop}
+use Rattle.std.proofs.Common.{◌≡◌, ◌+◌, ◌-◌, ◌∙◌, sym, ap, ℕ, List, length, take, drop, ◌++◌, append_assoc, arith, length-drop}
 use Rattle.std.proofs.Math.Seq.{take-add, take-length}
 use Rattle.std.proofs.lemmas.List.{take-append-drop}
-use Rattle.ids_server.specs.Printing.{TakesPart}
 use Rattle.ids_server.proofs.printer.write_all.Goals as goal
 
 pub returns-in_default-clause-part : goal.returns-in_default-clause-part

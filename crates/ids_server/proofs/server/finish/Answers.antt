@@ -1,6 +1,6 @@
-use Rattle.std.proofs.Common.{◌≡◌, ◌∙◌, refl, sym, ap, subst, ◌++◌, ◌⊎◌, List, ℕ}
+use Rattle.std.proofs.Common.{◌≡◌, ◌∙◌, sym, ap, subst, ◌++◌, ◌⊎◌}
 use Rattle.ids_outside.specs.Counts.{Rose}
-use Rattle.ids_server.specs.Printing.{Printed, TakesPart}
+use Rattle.ids_server.specs.Printing.{TakesPart}
 use Rattle.ids_server.specs.Lines.{status_line}
 use Rattle.ids_server.proofs.Carrying.{puts-flushed, ends-behind, ends-whole}
 use Rattle.ids_server.proofs.server.finish.Goals as goal

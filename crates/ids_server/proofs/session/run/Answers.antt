@@ -1,4 +1,3 @@
-use Rattle.std.proofs.Common.{◌≡◌, List, ◌++◌, [], ap, subst}
 use Rattle.ids_server.proofs.Carrying.{puts-flushed}
 use Rattle.ids_server.proofs.session.run.Goals as goal
 
