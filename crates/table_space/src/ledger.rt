@@ -9,7 +9,7 @@ ghost use Rattle.table_space.specs.Fronts.{IsFront, AreFronts};
 ghost use Rattle.table_space.specs.Opened.{AreFrontsFor, AreRoomsFor, IsOpened};
 ghost use Rattle.table_space.specs.Owners.{owner_in};
 ghost use Rattle.table_space.specs.Reserves.{AreReserves, AreTold, reserved_at};
-ghost use Rattle.table_space.specs.Rooms.{AreFull, IsNextPage, AreRooms};
+ghost use Rattle.table_space.specs.Rooms.{AreFull, IsNextPage, AreRooms, known_taken};
 
 use crate::catalogue::CATALOGUE;
 use crate::directory::Directory;
@@ -311,6 +311,18 @@ fn open_page(
         taken: front.taken.min(kept),
         used: front.used,
     };
+    mark_open(rooms, owners, page);
+}
+
+// No slot of a page is known to be taken as one of its table.
+fn mark_open(rooms: &mut Rooms, owners: &Owners, page: u32)
+    requires first { 1 ≤ page }
+    requires last { page ≤ length owners.now }
+    requires room_pages { rooms.old.pages ≡ length owners.now }
+    ensures here { (t : ℕ) → owner_in owners.now page ≡ Some t → known_taken rooms.new t page ≤ 0 }
+    ensures others { (p t : ℕ) → 1 ≤ p → p ≢ page → known_taken rooms.new t p ≤ known_taken rooms.old t p }
+    ensures pages { rooms.new.pages ≡ rooms.old.pages }
+{
     if let Some(table) = owners.get(page) {
         rooms.mark(page, table, 0, 0);
     }

@@ -1,4 +1,4 @@
-use Rattle.std.proofs.Common.{◌≡◌, ◌≤◌, ◌-◌, Some, None, refl, sym, ◌∙◌, arith, length, slice_index_or}
+use Rattle.std.proofs.Common.{◌≤◌, ◌-◌, refl, arith, length, slice_index_or}
 use Rattle.table_space.proofs.Reserving.{kept-opened, used-kept, opened-fronts, opened-rooms, opened-page, opened-others}
 use Rattle.table_space.proofs.ledger.open_page.Goals as goal
 
@@ -11,37 +11,26 @@ returns-then-kept-front-clause-opened c =
     (λ slot above small. (c.requires.fronts c.args.page (record { taken = 0; used = 0 }) c.requires.first within).used slot (omega (arith, above, c.if-kept-front.true)) small)
     c.kept_to-kept.ensures.kept)
 
-pub returns-in-Some-clause-fronts : goal.returns-in-Some-clause-fronts
-returns-in-Some-clause-fronts c = opened-fronts c.args.owners.now c.args.fronts.now c.args.rooms.now c.mark.new.self c.args.page c.kept_to-kept.result c.args.tx (record { taken = 0; used = 0 }) (record { taken = c.min.result; used = (slice_index_or c.args.fronts.now (c.args.page - 1) (record { taken = 0; used = 0 })).used })
+pub returns-clause-fronts : goal.returns-clause-fronts
+returns-clause-fronts c = opened-fronts c.args.owners.now c.args.fronts.now c.args.rooms.now c.mark_open.new.rooms c.args.page c.kept_to-kept.result c.args.tx (record { taken = 0; used = 0 })
+    (record { taken = c.min.result; used = (slice_index_or c.args.fronts.now (c.args.page - 1) (record { taken = 0; used = 0 })).used })
     c.requires.first (omega (arith, c.requires.last, c.requires.front_pages)) c.requires.front_pages c.requires.fronts c.requires.rooms c.kept_to-kept.ensures.kept (omega (arith, c.min.ensures)) (omega (arith, c.min.ensures)) refl
-    (λ t own. let same : Some c.in-Some.table ≡ Some t = sym c.in-Some.is ∙ c.get.ensures ∙ own in let it : c.in-Some.table ≡ t = cc in rw (← it) c.mark.ensures.here) c.mark.ensures.others
+    c.mark_open.ensures.here c.mark_open.ensures.others
 
-pub returns-in-Some-clause-rooms : goal.returns-in-Some-clause-rooms
-returns-in-Some-clause-rooms c = opened-rooms c.args.owners.now c.args.fronts.now c.args.rooms.now c.mark.new.self c.args.page c.kept_to-kept.result c.args.tx (record { taken = 0; used = 0 }) (record { taken = c.min.result; used = (slice_index_or c.args.fronts.now (c.args.page - 1) (record { taken = 0; used = 0 })).used })
+pub returns-clause-rooms : goal.returns-clause-rooms
+returns-clause-rooms c = opened-rooms c.args.owners.now c.args.fronts.now c.args.rooms.now c.mark_open.new.rooms c.args.page c.kept_to-kept.result c.args.tx (record { taken = 0; used = 0 })
+    (record { taken = c.min.result; used = (slice_index_or c.args.fronts.now (c.args.page - 1) (record { taken = 0; used = 0 })).used })
     c.requires.first (omega (arith, c.requires.last, c.requires.front_pages)) c.requires.front_pages c.requires.fronts c.requires.rooms c.kept_to-kept.ensures.kept (omega (arith, c.min.ensures)) (omega (arith, c.min.ensures)) refl
-    (λ t own. let same : Some c.in-Some.table ≡ Some t = sym c.in-Some.is ∙ c.get.ensures ∙ own in let it : c.in-Some.table ≡ t = cc in rw (← it) c.mark.ensures.here) c.mark.ensures.others
+    c.mark_open.ensures.here c.mark_open.ensures.others
 
-pub returns-in-Some-clause-opened : goal.returns-in-Some-clause-opened
-returns-in-Some-clause-opened c = opened-page c.args.owners.now c.args.fronts.now c.args.rooms.now c.mark.new.self c.args.page c.kept_to-kept.result c.args.tx (record { taken = 0; used = 0 }) (record { taken = c.min.result; used = (slice_index_or c.args.fronts.now (c.args.page - 1) (record { taken = 0; used = 0 })).used })
+pub returns-clause-opened : goal.returns-clause-opened
+returns-clause-opened c = opened-page c.args.owners.now c.args.fronts.now c.args.rooms.now c.mark_open.new.rooms c.args.page c.kept_to-kept.result c.args.tx (record { taken = 0; used = 0 })
+    (record { taken = c.min.result; used = (slice_index_or c.args.fronts.now (c.args.page - 1) (record { taken = 0; used = 0 })).used })
     c.requires.first (omega (arith, c.requires.last, c.requires.front_pages)) c.requires.front_pages c.requires.fronts c.requires.rooms c.kept_to-kept.ensures.kept (omega (arith, c.min.ensures)) (omega (arith, c.min.ensures)) refl
-    (λ t own. let same : Some c.in-Some.table ≡ Some t = sym c.in-Some.is ∙ c.get.ensures ∙ own in let it : c.in-Some.table ≡ t = cc in rw (← it) c.mark.ensures.here) c.mark.ensures.others
+    c.mark_open.ensures.here c.mark_open.ensures.others
 
-pub returns-in-Some-clause-others : goal.returns-in-Some-clause-others
-returns-in-Some-clause-others c = opened-others c.args.owners.now c.args.fronts.now c.args.rooms.now c.mark.new.self c.args.page c.kept_to-kept.result c.args.tx (record { taken = 0; used = 0 }) (record { taken = c.min.result; used = (slice_index_or c.args.fronts.now (c.args.page - 1) (record { taken = 0; used = 0 })).used })
+pub returns-clause-others : goal.returns-clause-others
+returns-clause-others c = opened-others c.args.owners.now c.args.fronts.now c.args.rooms.now c.mark_open.new.rooms c.args.page c.kept_to-kept.result c.args.tx (record { taken = 0; used = 0 })
+    (record { taken = c.min.result; used = (slice_index_or c.args.fronts.now (c.args.page - 1) (record { taken = 0; used = 0 })).used })
     c.requires.first (omega (arith, c.requires.last, c.requires.front_pages)) c.requires.front_pages c.requires.fronts c.requires.rooms c.kept_to-kept.ensures.kept (omega (arith, c.min.ensures)) (omega (arith, c.min.ensures)) refl
-    (λ t own. let same : Some c.in-Some.table ≡ Some t = sym c.in-Some.is ∙ c.get.ensures ∙ own in let it : c.in-Some.table ≡ t = cc in rw (← it) c.mark.ensures.here) c.mark.ensures.others
-
-pub returns-in_default-clause-fronts : goal.returns-in_default-clause-fronts
-returns-in_default-clause-fronts c = opened-fronts c.args.owners.now c.args.fronts.now c.args.rooms.now c.args.rooms.now c.args.page c.kept_to-kept.result c.args.tx (record { taken = 0; used = 0 }) (record { taken = c.min.result; used = (slice_index_or c.args.fronts.now (c.args.page - 1) (record { taken = 0; used = 0 })).used })
-    c.requires.first (omega (arith, c.requires.last, c.requires.front_pages)) c.requires.front_pages c.requires.fronts c.requires.rooms c.kept_to-kept.ensures.kept (omega (arith, c.min.ensures)) (omega (arith, c.min.ensures)) refl
-    (λ t own. let clash : None ≡ Some t = sym c.in_default.is ∙ c.get.ensures ∙ own in absurd (cc)) (λ p t low other. omega arith)
-
-pub returns-in_default-clause-opened : goal.returns-in_default-clause-opened
-returns-in_default-clause-opened c = opened-page c.args.owners.now c.args.fronts.now c.args.rooms.now c.args.rooms.now c.args.page c.kept_to-kept.result c.args.tx (record { taken = 0; used = 0 }) (record { taken = c.min.result; used = (slice_index_or c.args.fronts.now (c.args.page - 1) (record { taken = 0; used = 0 })).used })
-    c.requires.first (omega (arith, c.requires.last, c.requires.front_pages)) c.requires.front_pages c.requires.fronts c.requires.rooms c.kept_to-kept.ensures.kept (omega (arith, c.min.ensures)) (omega (arith, c.min.ensures)) refl
-    (λ t own. let clash : None ≡ Some t = sym c.in_default.is ∙ c.get.ensures ∙ own in absurd (cc)) (λ p t low other. omega arith)
-
-pub returns-in_default-clause-others : goal.returns-in_default-clause-others
-returns-in_default-clause-others c = opened-others c.args.owners.now c.args.fronts.now c.args.rooms.now c.args.rooms.now c.args.page c.kept_to-kept.result c.args.tx (record { taken = 0; used = 0 }) (record { taken = c.min.result; used = (slice_index_or c.args.fronts.now (c.args.page - 1) (record { taken = 0; used = 0 })).used })
-    c.requires.first (omega (arith, c.requires.last, c.requires.front_pages)) c.requires.front_pages c.requires.fronts c.requires.rooms c.kept_to-kept.ensures.kept (omega (arith, c.min.ensures)) (omega (arith, c.min.ensures)) refl
-    (λ t own. let clash : None ≡ Some t = sym c.in_default.is ∙ c.get.ensures ∙ own in absurd (cc)) (λ p t low other. omega arith)
+    c.mark_open.ensures.here c.mark_open.ensures.others
