@@ -30,6 +30,9 @@ fn tables_outlive_the_run_in_files(rt: HostRuntime) -> Result<(), Fail> {
         first.out.taken(),
         b"1.1 created\n1.2 begun\n1.3 rows 1\n1.4 committed\n".as_slice()
     );
+    // The disk of the first run is still in use.
+    assert_eq!(rt; run(&rt, "run", b"")?.status, Status::DiskFault);
+    drop(first);
     let second = run(&rt, "run", b"SELECT * FROM t WHERE k = 7")?;
     assert_eq!(rt; second.out.taken(), b"1.1 7|ab|\n1.1 rows 1\n".as_slice());
     Ok(())

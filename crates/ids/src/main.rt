@@ -1,12 +1,14 @@
 //! The program `ids`: makes the real source, sink, disk and gate, and hands them to the top call.
 #![tactic(auto)]
 
+use descriptors::take_standard_descriptors;
 use ids_base::status::Status;
 use ids_outside::{FileDisk, OpenGate, StdSink, StdSource};
 use ids_server::server::server;
 use std::io;
 use std::process::ExitCode;
 
+mod descriptors;
 #[cfg(test)]
 mod disk_tests;
 #[cfg(test)]
@@ -30,6 +32,10 @@ fn words_of(rt: &HostRuntime) -> io::Result<Vec<String>> {
 }
 
 fn main(rt: HostRuntime) -> ExitCode {
+    if take_standard_descriptors(&rt).is_err() {
+        let _ = println!(rt; "ids: 3 disk fault");
+        return ExitCode::from(Status::DiskFault.number());
+    }
     let words = match words_of(&rt) {
         Ok(words) => words,
         // A word that is not UTF-8 is no command.
@@ -42,8 +48,8 @@ fn main(rt: HostRuntime) -> ExitCode {
             return ExitCode::from(Status::Memory.number());
         }
     };
-    let mut source = StdSource::new(rt.stdin());
-    let sink = StdSink::new(rt.stdout());
+    let mut source = StdSource::new(&rt, rt.stdin());
+    let sink = StdSink::new(&rt, rt.stdout());
     let disk = FileDisk::new(&rt);
     let ended = server(rt.alloc(), &words, &mut source, disk, sink, &OpenGate);
     ExitCode::from(ended.status.number())

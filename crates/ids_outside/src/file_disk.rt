@@ -1,5 +1,5 @@
 //! A disk whose chunks are files.
-ghost use Rattle.std.specs.Prelude.{◌≡◌, [], ℕ, slice_index};
+ghost use Rattle.std.specs.Prelude.{◌≡◌, ◌<◌, [], ℕ, slice_index};
 ghost use Rattle.ids_outside.specs.Counts.{HasCause};
 
 use crate::{Disk, DiskFault};
@@ -12,8 +12,10 @@ const CHUNKS: usize = 9;
 
 const PAGE: u64 = 2048;
 
+const ROOT: &str = "root.chk";
+
 const NAMES: [&str; CHUNKS] = [
-    "root.chk",
+    ROOT,
     "data1.chk",
     "data2.chk",
     "data3.chk",
@@ -39,11 +41,28 @@ struct Chunk {
     unsynced: Unsynced,
 }
 
+// Whether this disk has the folder to itself, by the exclusive lock on the file of chunk 0.
+#[derive(Clone, Copy, Debug, Drop, PartialEq, Eq)]
+enum Access {
+    // The lock is held, to the end of the process or of the disk.
+    Locked,
+    // There was no such file; `grow` makes it and locks it, before anything is written.
+    Unmade,
+    // The lock could not be had: nothing is read or written.
+    Refused,
+}
+
 /// A disk whose chunks are the files `root.chk` and `data1.chk` to `data8.chk` of the current folder. It tells nothing of
 /// their bytes.
+///
+/// It locks `root.chk` exclusively as it opens or makes it, and keeps the lock to its end, so that of all disks of a folder only one
+/// reads or writes at a time. The system takes the lock back where the process ends, however it ends. Where another disk holds the
+/// lock, each call is a fault that is counted, and the files are left alone. The lock is advisory (`flock`): a program that does not
+/// ask for it, such as a copy, is not held up.
 #[derive(Drop)]
 pub struct FileDisk {
     rt: HostRuntime,
+    access: Access,
     chunks: [Chunk; CHUNKS],
     pages: [u32; CHUNKS],
     moment: u64,
@@ -72,6 +91,31 @@ fn open(rt: &HostRuntime, name: &str) -> Option<File> {
     both.or_else(|_| File::open(rt, name)).ok()
 }
 
+// Locks the file of chunk 0 where it is there.
+fn lock_root(rt: &HostRuntime, root: &Chunk) -> Access {
+    match &root.file {
+        Some(file) if file.try_lock().is_ok() => Access::Locked,
+        Some(_) => Access::Refused,
+        None if fs::metadata(rt, ROOT).is_ok() => Access::Refused,
+        None => Access::Unmade,
+    }
+}
+
+// Makes the file of chunk 0, which is not to be there yet, and locks it. Where another disk came first, it is a fault: what was
+// counted of the other files may be of before.
+fn make_root(rt: &HostRuntime) -> io::Result<File> {
+    let file = OpenOptions::new()
+        .read(true)
+        .write(true)
+        .create_new(true)
+        .open(rt, ROOT)?;
+    file.try_lock()?;
+    if file.metadata()?.len() > 0 {
+        return Err(held());
+    }
+    Ok(file)
+}
+
 fn open_chunk(rt: &HostRuntime, name: &str) -> Chunk {
     // What another process made of it may not be synced.
     Chunk {
@@ -95,6 +139,10 @@ fn counted(faults: &mut u64, done: io::Result<()>) -> Result<(), DiskFault>
 
 fn no_file() -> io::Result<()> {
     Err(io::Error::from(io::ErrorKind::NotFound))
+}
+
+fn held() -> io::Error {
+    io::Error::from(io::ErrorKind::WouldBlock)
 }
 
 fn read_file(file: &Option<File>, offset: u64, into: &mut [u8]) -> io::Result<()> {
@@ -167,18 +215,51 @@ fn sync_files(rt: &HostRuntime, chunks: &mut [Chunk]) -> io::Result<()> {
     Ok(())
 }
 
+// Makes a chunk longer. Before the first, the file of chunk 0 is made and locked.
+fn grow_chunk(
+    rt: &HostRuntime,
+    access: &mut Access,
+    chunks: &mut [Chunk; CHUNKS],
+    i: usize,
+    old: u32,
+    new: u32,
+) -> io::Result<()>
+    requires { i < CHUNKS }
+{
+    if *access == Access::Unmade {
+        *access = Access::Refused;
+        chunks[0].file = Some(make_root(rt)?);
+        *access = Access::Locked;
+    }
+    if *access == Access::Refused {
+        return Err(held());
+    }
+    lengthen(rt, &mut chunks[i], NAMES[i], old, new)
+}
+
+// The pages that chunk 0 is said to have. What a disk that is refused has is not known; it says at least one, so that who asks
+// comes to a call and its fault, and does not take the folder for an empty one.
+fn root_pages(rt: &HostRuntime, access: Access) -> u32 {
+    let least = if access == Access::Refused { 1 } else { 0 };
+    pages_of(rt, ROOT).max(least)
+}
+
 impl FileDisk {
     /// The disk of the current folder. A file that is not there has 0 pages, and one whose length is no multiple of a page
-    /// counts by its whole pages.
+    /// counts by its whole pages. Where another disk of this folder is in use, each call of this one is a fault.
     pub fn new(rt: &HostRuntime) -> FileDisk
         ensures moment { result.moment ≡ 0 }
         ensures faults { result.faults ≡ 0 }
     {
         let [a, b, c, d, e, f, g, h, i] = NAMES;
+        let root = open_chunk(rt, a);
+        // What the files have is looked at under the lock.
+        let access = lock_root(rt, &root);
         FileDisk {
             rt: *rt,
+            access,
             chunks: [
-                open_chunk(rt, a),
+                root,
                 open_chunk(rt, b),
                 open_chunk(rt, c),
                 open_chunk(rt, d),
@@ -189,7 +270,7 @@ impl FileDisk {
                 open_chunk(rt, i),
             ],
             pages: [
-                pages_of(rt, a),
+                root_pages(rt, access),
                 pages_of(rt, b),
                 pages_of(rt, c),
                 pages_of(rt, d),
@@ -249,7 +330,9 @@ impl Disk for FileDisk {
     }
 
     fn read(&mut self, chunk: u32, offset: u64, into: &mut [u8]) -> Result<(), DiskFault> {
-        let done = if (chunk as usize) < CHUNKS {
+        let done = if self.access == Access::Refused {
+            Err(held())
+        } else if (chunk as usize) < CHUNKS {
             read_file(&self.chunks[chunk as usize].file, offset, into)
         } else {
             no_file()
@@ -259,7 +342,9 @@ impl Disk for FileDisk {
 
     fn write_at(&mut self, chunk: u32, offset: u64, bytes: &[u8]) -> Result<(), DiskFault> {
         self.moment = self.moment.saturating_add(1);
-        let done = if (chunk as usize) < CHUNKS {
+        let done = if self.access != Access::Locked {
+            Err(held())
+        } else if (chunk as usize) < CHUNKS {
             write_file(&mut self.chunks[chunk as usize], offset, bytes)
         } else {
             no_file()
@@ -270,13 +355,13 @@ impl Disk for FileDisk {
     fn grow(&mut self, chunk: u32, pages: u32) -> Result<(), DiskFault> {
         self.moment = self.moment.saturating_add(1);
         let i = chunk as usize;
-        if i >= CHUNKS {
+        if i >= CHUNKS || self.access == Access::Refused {
             self.faults = self.faults.saturating_add(1);
             return Err(DiskFault);
         }
         let old = self.pages[i];
         if old < pages {
-            let done = lengthen(&self.rt, &mut self.chunks[i], NAMES[i], old, pages);
+            let done = grow_chunk(&self.rt, &mut self.access, &mut self.chunks, i, old, pages);
             counted(&mut self.faults, done)?;
             self.pages[i] = pages;
         }
@@ -285,7 +370,11 @@ impl Disk for FileDisk {
 
     fn sync(&mut self) -> Result<(), DiskFault> {
         self.moment = self.moment.saturating_add(1);
-        let done = sync_files(&self.rt, &mut self.chunks);
+        let done = if self.access == Access::Refused {
+            Err(held())
+        } else {
+            sync_files(&self.rt, &mut self.chunks)
+        };
         counted(&mut self.faults, done)
     }
 }

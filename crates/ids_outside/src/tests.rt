@@ -1,6 +1,8 @@
 // Each object through the bounds that the server has.
 use super::*;
 use std::alloc::{AllocError, Global};
+use std::fs;
+use std::io::{self, ErrorKind, Read, Write};
 use std::marker::Brand;
 use std::test::Fail;
 
@@ -82,8 +84,8 @@ fn without_failures(rt: HostRuntime) -> Result<(), Fail> {
 #[test]
 fn streams_serve(rt: HostRuntime) -> Result<(), Fail> {
     let alloc = rt.alloc();
-    let mut script = StdSource::new(b"one two".as_slice());
-    let out = StdSink::new(Vec::new(alloc));
+    let mut script = StdSource::new(&rt, b"one two".as_slice());
+    let out = StdSink::new(&rt, Vec::new(alloc));
     let (disk, _out, counts) = server(&mut script, FileDisk::new(&rt), out, &OpenGate);
     assert_eq!(rt; counts, [0, 0, 0, 0, 0, 0]);
     assert_eq!(rt; disk.pages(9), 0);
@@ -93,7 +95,7 @@ fn streams_serve(rt: HostRuntime) -> Result<(), Fail> {
 #[test]
 fn a_write_of_nothing_is_a_fault(rt: HostRuntime) -> Result<(), Fail> {
     let mut room = [0; 2];
-    let mut out = StdSink::new(room.as_mut_slice());
+    let mut out = StdSink::new(&rt, room.as_mut_slice());
     assert_eq!(rt; out.write(b"abc"), Ok(2));
     assert_eq!(rt; out.write(b"c"), Err(SinkFault));
     assert_eq!(rt; out.write(b""), Ok(0));
@@ -104,8 +106,8 @@ fn a_write_of_nothing_is_a_fault(rt: HostRuntime) -> Result<(), Fail> {
 // Whatever standard input has goes to standard output.
 #[test]
 fn standard_streams(rt: HostRuntime) -> Result<(), Fail> {
-    let mut script = StdSource::new(rt.reader());
-    let out = StdSink::new(rt.stdout());
+    let mut script = StdSource::new(&rt, rt.reader());
+    let out = StdSink::new(&rt, rt.stdout());
     let (_disk, out, _counts) = server(&mut script, FileDisk::new(&rt), out, &OpenGate);
     assert_eq!(rt; out.faults(), 0);
     Ok(())
@@ -185,23 +187,119 @@ fn an_image_is_a_disk(rt: HostRuntime) -> Result<(), Fail> {
     Ok(())
 }
 
+// A stream whose first call is interrupted, whose second would block, and whose fifth fails.
+#[derive(Drop)]
+struct Shaky {
+    calls: u64,
+}
+
+impl Shaky {
+    fn next(&mut self) -> io::Result<usize> {
+        self.calls = self.calls.saturating_add(1);
+        match self.calls {
+            1 => Err(io::Error::from(ErrorKind::Interrupted)),
+            2 => Err(io::Error::from(ErrorKind::WouldBlock)),
+            5 => Err(io::Error::from(ErrorKind::BrokenPipe)),
+            _ => Ok(1),
+        }
+    }
+}
+
+impl Read for Shaky {
+    fn read(&mut self, into: &mut [u8]) -> io::Result<usize> {
+        let count = self.next()?;
+        into.fill(7);
+        Ok(count.min(into.len()))
+    }
+}
+
+impl Write for Shaky {
+    fn write(&mut self, bytes: &[u8]) -> io::Result<usize> {
+        Ok(self.next()?.min(bytes.len()))
+    }
+
+    fn flush(&mut self) -> io::Result<()> {
+        Ok(())
+    }
+}
+
+#[test]
+fn what_passes_is_no_fault(rt: HostRuntime) -> Result<(), Fail> {
+    let mut script = StdSource::new(&rt, Shaky { calls: 0 });
+    let mut out = StdSink::new(&rt, Shaky { calls: 0 });
+    for _ in 0..2 {
+        let mut piece = [0; 2];
+        assert_eq!(rt; script.read(&mut piece), Ok(1));
+        assert_eq!(rt; piece[0], 7);
+        assert_eq!(rt; out.write(b"xy"), Ok(1));
+    }
+    assert_eq!(rt; out.faults(), 0);
+    assert_eq!(rt; script.read(&mut [0; 2]), Err(SourceFault));
+    assert_eq!(rt; out.write(b"xy"), Err(SinkFault));
+    assert_eq!(rt; out.faults(), 1);
+    Ok(())
+}
+
+// Takes away what another test left in the folder.
+fn clear_folder(rt: &HostRuntime) {
+    for name in ["root.chk", "data6.chk", "data7.chk"] {
+        let _ = fs::remove_file(rt, name);
+    }
+}
+
+// Two pages in chunk 7, with 1 2 3 across their edge.
+fn write_two_pages(disk: &mut FileDisk) -> Result<(), DiskFault> {
+    disk.grow(7, 2)?;
+    if disk.pages(7) != 2 {
+        return Err(DiskFault);
+    }
+    disk.write_at(7, 2046, &[1, 2, 3])?;
+    disk.sync()?;
+    disk.grow(6, 0)
+}
+
 #[test]
 fn files_are_a_disk(rt: HostRuntime) -> Result<(), Fail> {
+    clear_folder(&rt);
     let mut disk = FileDisk::new(&rt);
     assert_eq!(rt; disk.pages(7), 0);
-    assert!(rt; disk.grow(7, 2).is_ok());
-    assert!(rt; disk.pages(7) == 2);
-    assert!(rt; disk.write_at(7, 2046, &[1, 2, 3]).is_ok());
-    assert!(rt; disk.sync().is_ok());
-    assert!(rt; disk.grow(6, 0).is_ok());
+    assert_eq!(rt; write_two_pages(&mut disk), Ok(()));
     assert_eq!(rt; disk.moment(), 4);
+
+    // The folder is one disk's at a time.
+    let mut second = FileDisk::new(&rt);
+    assert_eq!(rt; second.pages(0), 1);
+    assert!(rt; second.read(0, 0, &mut [0; 4]).is_err());
+    assert!(rt; second.write_at(7, 0, &[9]).is_err());
+    assert!(rt; second.grow(7, 1).is_err());
+    assert!(rt; second.sync().is_err());
+    assert_eq!(rt; second.faults(), 4);
+    drop(second);
+    drop(disk);
+
     let mut again = FileDisk::new(&rt);
     assert!(rt; again.pages(7) == 2);
     let mut bytes = [7; 4];
     assert!(rt; again.read(7, 2045, &mut bytes).is_ok());
     assert_eq!(rt; bytes, [0, 1, 2, 3]);
-    std::fs::remove_file(&rt, "data7.chk")?;
     assert_eq!(rt; again.faults(), 0);
+    drop(again);
+    clear_folder(&rt);
+    Ok(())
+}
+
+#[test]
+fn a_disk_that_comes_late_writes_nothing(rt: HostRuntime) -> Result<(), Fail> {
+    clear_folder(&rt);
+    let mut late = FileDisk::new(&rt);
+    let mut first = FileDisk::new(&rt);
+    assert_eq!(rt; write_two_pages(&mut first), Ok(()));
+    drop(first);
+    assert!(rt; late.grow(7, 1).is_err());
+    assert!(rt; late.sync().is_err());
+    assert_eq!(rt; fs::metadata(&rt, "data7.chk")?.len(), 4096);
+    drop(late);
+    clear_folder(&rt);
     Ok(())
 }
 
