@@ -270,7 +270,7 @@ fn files_are_a_disk(rt: HostRuntime) -> Result<(), Fail> {
     let mut second = FileDisk::new(&rt);
     assert_eq!(rt; second.pages(0), 1);
     assert!(rt; second.read(0, 0, &mut [0; 4]).is_err());
-    assert!(rt; second.write_at(7, 0, &[9]).is_err());
+    assert!(rt; second.write_at(0, 0, &[9]).is_err());
     assert!(rt; second.grow(7, 1).is_err());
     assert!(rt; second.sync().is_err());
     assert_eq!(rt; second.faults(), 4);
