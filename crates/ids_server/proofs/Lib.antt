@@ -1,10 +1,12 @@
 pub mod Answers
 pub mod Carrying
 pub mod Refused
+pub mod Told
 pub mod Texts
 pub mod Outcomes
 pub mod Taking
 pub mod Joining
+pub mod Moments
 pub mod Steps
 pub mod Runs
 pub mod Opened

@@ -23,6 +23,7 @@ use Rattle.sql_reader.specs.Plans.{IsScriptOf}
 use Rattle.ids_server.specs.declared.runner.Runner.{Runner}
 use Rattle.ids_server.specs.Running.{Running, effects_of}
 use Rattle.ids_server.specs.Runners.{running_of, KeepsRun}
+use Rattle.ids_server.specs.Moments.{HaveMoments}
 use Rattle.ids_server.specs.Serving.{Serves, HasRun, LeavesFirst, RunsFrom, has_checked}
 
 -- where nothing was given and nothing committed, any script is served
@@ -62,6 +63,7 @@ module _ {D : Type 0} (tells : Type 0) (now : D → ℕ) (image : D → Image) (
   nothing_ran starts bytes found old new status failed not_done checked so stay = record {
     legal = tt;
     serves = serves_nothing starts bytes found status not_done checked;
+    moments = tt;
     opened = λ t T recovers. inl (refl, refl);
     any_moment = λ bound. each-as now image can_leave left_at old new failed _ (λ m c. KeepsTables (image old) c) (λ m c. (T : Tables) → Recovers (image old) T → LeavesFirst T [] m c)
         (λ fault. (so fault, refl, refl)) (λ m c keeps T recovers. record { k = 0; covered = tt; recovers = keeps T recovers }) (stay bound);
@@ -94,11 +96,12 @@ module _ {D : Type 0} (tells : Type 0) (size : D → ℕ → ℕ) (now : D → �
       → InGrammar bytes
       → ((T : Tables) → tells → Recovers (image old) T → HasFound tells size now image can_leave left_at store old opened T)
       → ((script : Script) → IsScriptOf bytes script → HasRun script store.tables status journal given)
+      → HaveMoments (now new) journal
       → ((since : ℕ) (base : Image) (found : Tables) → KeepsStore tells size now image can_leave left_at since base found [] [] store opened → Survives now left_at since found (done_of journal) new)
       → (status ≡ Done → (since : ℕ) (base : Image) (found : Tables) → KeepsStore tells size now image can_leave left_at since base found [] [] store opened
       → (c : Image) → can_leave new c → Recovers c (tables_from found (done_of journal)))
       → RunsFrom tells now image can_leave left_at bytes store.tables old new status journal given
-  runs_over laws left_tells bytes store old opened new status journal given grammar finds has_run survives at_end =
+  runs_over laws left_tells bytes store old opened new status journal given grammar finds has_run moments survives at_end =
       let script = laws.scripts bytes grammar in
       let ran = has_run script.0 script.1 in
       record {
@@ -110,6 +113,7 @@ module _ {D : Type 0} (tells : Type 0) (size : D → ℕ → ℕ) (now : D → �
           ran = λ _. grammar;
           unread = inr grammar;
         };
+        moments = moments;
         opened = λ t T recovers. inr (finds T t recovers).tables;
         any_moment = λ bound. each-since now image can_leave left_at old new _ (λ m c. (T : Tables) → Recovers (image old) T → LeavesFirst T journal m c) (λ m c since left T recovers.
             let found = finds T (left_tells new m c left) recovers in

@@ -45,6 +45,7 @@ module _ {D : Type 0} (tells : Type 0) (now : D → ℕ) (image : D → Image) (
       (record {
         legal = tt;
         serves = serves_none starts bytes status unchecked;
+        moments = tt;
         opened = λ t T recovers. inl (refl, refl);
         any_moment = λ bound. each-since now image can_leave left_at d d _ (λ m c. (T : Tables) → Recovers (image d) T → LeavesFirst T [] m c) (λ m c since left T recovers.
             record { k = 0; covered = tt; recovers = subst (λ (x : Image). Recovers x T) (sym (left_now only_now no_later d bound m c since left)) recovers });

@@ -1,6 +1,7 @@
 -- What a command gives back.
 use Rattle.std.specs.Prelude.{◌≡◌, ◌⊎◌, ◌<◌, ℕ, Bool, true, false, List, [], length}
 use Rattle.ids_base.specs.declared.status.Status.{Status}
+use Rattle.ids_base.specs.declared.status.Why.TheVariants.{Wrong}
 use Rattle.ids_base.specs.declared.status.Status.TheVariants.{Done, BadWords, BadScript, DiskFault, Memory, SinkFault, SourceFault, TooLong, NotFormatted, Damaged, AlreadyFormatted, TooSmall, LogFull}
 use Rattle.ids_outside.specs.Counts.{last_count}
 use Rattle.ids_outside.specs.Images.{Image}
@@ -14,8 +15,9 @@ use Rattle.ids_model.specs.Covered.{Covered}
 use Rattle.ids_engine.specs.Journals.{AreTimely}
 use Rattle.fast_recovery.specs.Images.{Recovers}
 use Rattle.fast_recovery.specs.Opening.{EachStop}
-use Rattle.sql_reader.specs.Lines.{InGrammar}
+use Rattle.sql_reader.specs.Lines.{InGrammar, IsBadAt}
 use Rattle.sql_reader.specs.Plans.{IsScriptOf}
+use Rattle.ids_server.specs.Moments.{HaveMoments}
 
 -- each session has as many replies as statements
 abbrev pub AllAnswered : Script → List Given → Type 0
@@ -69,18 +71,34 @@ is_of_script AlreadyFormatted = false
 is_of_script (TooSmall pages needed) = false
 is_of_script LogFull = true
 
--- an answer that a run can have
+-- an answer that the run of a script in a session can have
+abbrev pub is_of_session : Status → Bool
+is_of_session Done = true
+is_of_session BadWords = false
+is_of_session (BadScript byte why) = false
+is_of_session DiskFault = true
+is_of_session Memory = true
+is_of_session SinkFault = true
+is_of_session SourceFault = false
+is_of_session TooLong = false
+is_of_session NotFormatted = false
+is_of_session (Damaged place) = false
+is_of_session AlreadyFormatted = false
+is_of_session (TooSmall pages needed) = false
+is_of_session LogFull = true
+
+-- an answer that the command `run` can have
 abbrev pub is_of_run : Status → Bool
 is_of_run Done = true
 is_of_run BadWords = false
-is_of_run (BadScript byte why) = false
+is_of_run (BadScript byte why) = true
 is_of_run DiskFault = true
 is_of_run Memory = true
 is_of_run SinkFault = true
-is_of_run SourceFault = false
-is_of_run TooLong = false
-is_of_run NotFormatted = false
-is_of_run (Damaged place) = false
+is_of_run SourceFault = true
+is_of_run TooLong = true
+is_of_run NotFormatted = true
+is_of_run (Damaged place) = true
 is_of_run AlreadyFormatted = false
 is_of_run (TooSmall pages needed) = false
 is_of_run LogFull = true
@@ -117,6 +135,38 @@ has_opened AlreadyFormatted = false
 has_opened (TooSmall pages needed) = false
 has_opened LogFull = true
 
+-- an answer that comes before a call of the disk
+abbrev pub is_before_disk : Status → Bool
+is_before_disk Done = false
+is_before_disk BadWords = true
+is_before_disk (BadScript byte why) = true
+is_before_disk DiskFault = false
+is_before_disk Memory = false
+is_before_disk SinkFault = false
+is_before_disk SourceFault = true
+is_before_disk TooLong = true
+is_before_disk NotFormatted = false
+is_before_disk (Damaged place) = false
+is_before_disk AlreadyFormatted = false
+is_before_disk (TooSmall pages needed) = false
+is_before_disk LogFull = false
+
+-- an answer by which a disk is refused as it stands
+abbrev pub is_of_refused_disk : Status → Bool
+is_of_refused_disk Done = false
+is_of_refused_disk BadWords = false
+is_of_refused_disk (BadScript byte why) = false
+is_of_refused_disk DiskFault = false
+is_of_refused_disk Memory = false
+is_of_refused_disk SinkFault = false
+is_of_refused_disk SourceFault = false
+is_of_refused_disk TooLong = false
+is_of_refused_disk NotFormatted = true
+is_of_refused_disk (Damaged place) = true
+is_of_refused_disk AlreadyFormatted = true
+is_of_refused_disk (TooSmall pages needed) = false
+is_of_refused_disk LogFull = false
+
 -- for the script of these bytes, the journal matches it and the replies, and each reply says what the tables of its moment say, from those that were found;
 -- where all was done, each statement has its reply; where the bytes are no script, nothing was given and nothing committed
 pub record Serves (bytes : List ℕ) (found : Tables) (status : Status) (journal : List Committed) (given : List Given) : Type 0 where
@@ -125,6 +175,18 @@ pub record Serves (bytes : List ℕ) (found : Tables) (status : Status) (journal
   pub answered : status ≡ Done → (script : Script) → IsScriptOf bytes script → AllAnswered script given
   pub ran : has_checked status ≡ true → InGrammar bytes
   pub unread : (journal ≡ []) × (given ≡ []) ⊎ InGrammar bytes
+
+-- it is so, or no script was read: the source failed, or memory was wanting
+abbrev pub UnlessUnread : Status → Type 0 → Type 0
+UnlessUnread status so = so ⊎ (status ≡ SourceFault) ⊎ (status ≡ Memory)
+
+-- it is told of these bytes where their first line begins that is none
+abbrev pub IsToldBad : List ℕ → Status → Type 0
+IsToldBad bytes status = (byte : ℕ) × IsBadAt bytes byte × (status ≡ BadScript byte Wrong)
+
+-- all was done, but for want of memory, or of a block of the log
+abbrev pub IsDoneBut : Status → Type 0
+IsDoneBut status = (status ≡ Done) ⊎ (status ≡ Memory) ⊎ (status ≡ LogFull)
 
 -- what a run leaves for a script
 pub record HasRun (script : Script) (found : Tables) (status : Status) (journal : List Committed) (given : List Given) : Type 0 where
@@ -148,6 +210,7 @@ pub record RunsFrom {D : Type 0} (tells : Type 0) (now : D → ℕ) (image : D �
     (bytes : List ℕ) (found : Tables) (old new : D) (status : Status) (journal : List Committed) (given : List Given) : Type 0 where
   pub legal : IsLegal found journal
   pub serves : Serves bytes found status journal given
+  pub moments : HaveMoments (now new) journal
   pub opened : tells → (T : Tables) → Recovers (image old) T → ((journal ≡ []) × (given ≡ [])) ⊎ (T ≡ found)
   pub any_moment : now new < last_count → EachStop now image can_leave left_at old new ((status ≡ DiskFault) × (journal ≡ []) × (given ≡ []))
       (λ m c. (T : Tables) → Recovers (image old) T → LeavesFirst T journal m c)

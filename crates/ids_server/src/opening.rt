@@ -9,16 +9,16 @@ ghost use Rattle.chunk_map.specs.Formatted.{IsFormatted};
 ghost use Rattle.ids_model.specs.Tables.{Tables};
 ghost use Rattle.ids_model.specs.Text.{text};
 ghost use Rattle.ids_engine.specs.Blank.{IsBlank};
-ghost use Rattle.ids_engine.specs.Openings.{Refuses};
+ghost use Rattle.ids_engine.specs.Openings.{IsUnchanged, Refuses};
 ghost use Rattle.fast_recovery.specs.Images.{Recovers};
 ghost use Rattle.fast_recovery.specs.LogRead.{IsLogFull};
 ghost use Rattle.ids_engine.specs.OutOfBlocks.{HasNoBlock};
 ghost use Rattle.sql_reader.specs.Lines.{InGrammar, texts_of};
 ghost use Rattle.ids_outside.specs.Images.{Image};
 ghost use Rattle.fast_recovery.specs.declared.fault.OpenFault as opening;
-ghost use Rattle.fast_recovery.specs.Opening.{WasFormatted};
+ghost use Rattle.fast_recovery.specs.Opening.{IsRefusal, WasFormatted};
 ghost use Rattle.ids_server.specs.Printing.{PrinterPuts};
-ghost use Rattle.ids_server.specs.Serving.{RunsFrom, is_of_script, is_of_init, has_opened};
+ghost use Rattle.ids_server.specs.Serving.{RunsFrom, is_of_script, is_of_init, has_opened, is_before_disk, is_of_refused_disk};
 
 use crate::printer::Printer;
 use crate::runner::Runner;
@@ -65,6 +65,8 @@ fn status_of(fault: OpenFault) -> Status
     ensures not_done { ¬ (result ≡ Status.Done) }
     ensures not_sink { ¬ (result ≡ Status.SinkFault) }
     ensures no_bad_script { (byte : ℕ) (why : Reason) → ¬ (result ≡ Status.BadScript byte why) }
+    ensures looked { is_before_disk result ≡ false }
+    ensures refused { is_of_refused_disk result ≡ true → IsRefusal fault }
     ensures disk { (result ≡ Status.DiskFault) ↔ (fault ≡ OpenFault.Disk) }
     ensures log_full { result ≡ Status.LogFull → fault ≡ OpenFault.LogFull }
     ensures was_formatted { (x : Image) → WasFormatted x fault → has_opened result ≡ true → IsFormatted x }
@@ -94,6 +96,8 @@ pub(crate) fn run_script<D: Disk, K: Sink>(
         → (found : Tables) × RunsFrom D.tells D.now D.image D.can_leave D.left_at bytes found disk.old disk.new result.status result.journal result.given }
     ensures own { is_of_script result.status ≡ true }
     ensures no_bad_script { (byte : ℕ) (why : Reason) → ¬ (result.status ≡ Status.BadScript byte why) }
+    ensures looked { is_before_disk result.status ≡ false }
+    ensures unchanged { is_of_refused_disk result.status ≡ true → IsUnchanged D.image D.can_leave disk.old disk.new }
     ensures printed { PrinterPuts K.tells K.taken K.fault_count printer.old printer.new (text result.given) }
     ensures clean { printer.new.gathered ≡ [] }
     ensures failed { (result.status ≡ Status.SinkFault) ↔ (printer.new.failed ≡ true) }
@@ -130,6 +134,7 @@ pub(crate) fn format<D: Disk>(alloc: Global, disk: &mut D) -> Ran
     ensures durable { result.status ≡ Status.Done → Only (D.image disk.new) (D.can_leave disk.new) }
     ensures was { result.status ≡ Status.Done → D.tells → ¬ IsFormatted (D.image disk.old) }
     ensures already { result.status ≡ Status.AlreadyFormatted → D.tells → IsFormatted (D.image disk.old) }
+    ensures unchanged { is_of_refused_disk result.status ≡ true → IsUnchanged D.image D.can_leave disk.old disk.new }
     ensures disk_fault { result.status ≡ Status.DiskFault → Rose (D.fault_count disk.old) (D.fault_count disk.new) }
     ensures own { is_of_init result.status ≡ true }
 {

@@ -9,7 +9,7 @@ ghost use Rattle.chunk_map.specs.Formatted.{IsFormatted};
 ghost use Rattle.ids_model.specs.Tables.{Tables};
 ghost use Rattle.ids_model.specs.Text.{text};
 ghost use Rattle.ids_engine.specs.Blank.{IsBlank};
-ghost use Rattle.ids_engine.specs.Openings.{Refuses};
+ghost use Rattle.ids_engine.specs.Openings.{IsUnchanged, Refuses};
 ghost use Rattle.fast_recovery.specs.Images.{Recovers};
 ghost use Rattle.fast_recovery.specs.LogRead.{IsLogFull};
 ghost use Rattle.ids_engine.specs.OutOfBlocks.{HasNoBlock};
@@ -17,7 +17,7 @@ ghost use Rattle.sql_reader.specs.Lines.{InGrammar, IsBadAt};
 ghost use Rattle.ids_server.specs.Words.{is_run, is_init, is_command};
 ghost use Rattle.ids_server.specs.Lines.{status_line};
 ghost use Rattle.ids_server.specs.Printing.{IsFront, TakesPart, PrinterPuts, PrinterCarries, PrinterIsCaused};
-ghost use Rattle.ids_server.specs.Serving.{RunsFrom, has_read, has_opened, is_of_script};
+ghost use Rattle.ids_server.specs.Serving.{RunsFrom, UnlessUnread, IsToldBad, IsDoneBut, has_read, has_opened, is_of_script, is_of_run, is_of_init, is_before_disk, is_of_refused_disk};
 
 use crate::opening::{Ran, format, run_script};
 use crate::printer::Printer;
@@ -57,6 +57,8 @@ fn check_and_run<D: Disk, K: Sink>(
     ensures ran { (found : Tables) × RunsFrom D.tells D.now D.image D.can_leave D.left_at bytes.items found disk.old disk.new result.status result.journal result.given }
     ensures bad_script { (byte : ℕ) (why : Reason) → result.status ≡ Status.BadScript byte why → IsBadAt bytes.items byte × (why ≡ Why.Wrong) }
     ensures own { is_of_script result.status ≡ true }
+    ensures untouched { is_before_disk result.status ≡ true → disk.new ≡ disk.old }
+    ensures unchanged { is_of_refused_disk result.status ≡ true → IsUnchanged D.image D.can_leave disk.old disk.new }
     ensures printed { PrinterPuts K.tells K.taken K.fault_count printer.old printer.new (text result.given) }
     ensures clean { printer.new.gathered ≡ [] }
     ensures failed { (result.status ≡ Status.SinkFault) ↔ (printer.new.failed ≡ true) }
@@ -91,7 +93,9 @@ fn run_source<D: Disk, S: Source, K: Sink>(
     ensures too_long { result.status ≡ Status.TooLong → S.tells → MOST_BYTES < length (S.left source.old) }
     ensures read { has_read result.status ≡ true → S.tells → length (S.left source.old) ≤ MOST_BYTES }
     ensures source_fault { result.status ≡ Status.SourceFault → Rose (S.fault_count source.old) (S.fault_count source.new) }
-    ensures not_words { ¬ (result.status ≡ Status.BadWords) }
+    ensures own { is_of_run result.status ≡ true }
+    ensures untouched { is_before_disk result.status ≡ true → disk.new ≡ disk.old }
+    ensures unchanged { is_of_refused_disk result.status ≡ true → IsUnchanged D.image D.can_leave disk.old disk.new }
     ensures printed { PrinterPuts K.tells K.taken K.fault_count printer.old printer.new (text result.given) }
     ensures clean { printer.new.gathered ≡ [] }
     ensures failed { (result.status ≡ Status.SinkFault) ↔ (printer.new.failed ≡ true) }
@@ -123,6 +127,10 @@ fn answer<D: Disk, S: Source, K: Sink>(
     ensures ran { is_run words.now ≡ true → (found : Tables) × (bytes : List ℕ) × (S.tells → S.left source.old ≡ bytes)
         × RunsFrom D.tells D.now D.image D.can_leave D.left_at bytes found disk.old disk.new result.status result.journal result.given }
     ensures idle { is_run words.now ≡ false → (result.journal ≡ []) × (result.given ≡ []) }
+    ensures own_run { is_run words.now ≡ true → is_of_run result.status ≡ true }
+    ensures own_init { is_init words.now ≡ true → is_of_init result.status ≡ true }
+    ensures untouched { is_before_disk result.status ≡ true → disk.new ≡ disk.old }
+    ensures unchanged { is_of_refused_disk result.status ≡ true → IsUnchanged D.image D.can_leave disk.old disk.new }
     ensures formatted { is_init words.now ≡ true → result.status ≡ Status.Done → (D.tells → IsBlank default_layout (D.image disk.new) × ¬ IsFormatted (D.image disk.old)) × Only (D.image disk.new) (D.can_leave disk.new) }
     ensures already { is_init words.now ≡ true → result.status ≡ Status.AlreadyFormatted → D.tells → IsFormatted (D.image disk.old) }
     ensures bad_words { (result.status ≡ Status.BadWords) ↔ (is_command words.now ≡ false) }
@@ -192,6 +200,10 @@ pub fn server<D: Disk + Send, S: Source, K: Sink + Send, G: Gate + Sync>(
         × RunsFrom D.tells D.now D.image D.can_leave D.left_at bytes found disk result.disk result.status result.journal result.given }
     ensures idle { is_run words.now ≡ false → (result.journal ≡ []) × (result.given ≡ []) }
 
+    // Each command answers its own statuses, and no others.
+    ensures own_run { is_run words.now ≡ true → is_of_run result.status ≡ true }
+    ensures own_init { is_init words.now ≡ true → is_of_init result.status ≡ true }
+
     // A disk that is formatted.
     ensures formatted { is_init words.now ≡ true → result.status ≡ Status.Done → (D.tells → IsBlank default_layout (D.image result.disk) × ¬ IsFormatted (D.image disk)) × Only (D.image result.disk) (D.can_leave result.disk) }
     ensures already { is_init words.now ≡ true → result.status ≡ Status.AlreadyFormatted → D.tells → IsFormatted (D.image disk) }
@@ -200,6 +212,22 @@ pub fn server<D: Disk + Send, S: Source, K: Sink + Send, G: Gate + Sync>(
     ensures front { result.status ≡ Status.SinkFault → K.tells → IsFront (K.taken result.out) (text result.given) }
     ensures behind { ¬ (result.status ≡ Status.SinkFault) → K.tells → TakesPart (text result.given) (K.taken result.out) (status_line result.status) }
     ensures whole { ¬ (result.status ≡ Status.SinkFault) → K.tells → (K.taken result.out ≡ text result.given ++ status_line result.status) ⊎ Rose (K.fault_count out) (K.fault_count result.out) }
+
+    // Where the words, the source or the script are refused, the disk is the one that was handed in; where the disk is refused, a read
+    // gives what it gave, and a stop leaves only what it could have left.
+    ensures untouched { is_before_disk result.status ≡ true → result.disk ≡ disk }
+    ensures unchanged { is_of_refused_disk result.status ≡ true → IsUnchanged D.image D.can_leave disk result.disk }
+
+    // Where no call failed, a command is done: a script that is read, over an image from which tables are recovered, but for want of
+    // memory, and of a block of the log; and the formatting of a disk that is not formatted.
+    ensures complete { is_run words.now ≡ true → S.tells → D.tells
+        → ¬ Rose (S.fault_count script.old) (S.fault_count script.new) → ¬ Rose (D.fault_count disk) (D.fault_count result.disk) → ¬ Rose (K.fault_count out) (K.fault_count result.out)
+        → length (S.left script.old) ≤ MOST_BYTES → InGrammar (S.left script.old) → (T : Tables) → Recovers (D.image disk) T → IsDoneBut result.status }
+    ensures complete_init { is_init words.now ≡ true → D.tells → ¬ Rose (D.fault_count disk) (D.fault_count result.disk) → ¬ IsFormatted (D.image disk) → result.status ≡ Status.Done }
+
+    // A source that gives too much, and a script with a line that is none, are told so, unless the source failed or memory was wanting.
+    ensures told_long { is_run words.now ≡ true → S.tells → MOST_BYTES < length (S.left script.old) → UnlessUnread result.status (result.status ≡ Status.TooLong) }
+    ensures told_bad { is_run words.now ≡ true → S.tells → length (S.left script.old) ≤ MOST_BYTES → ¬ InGrammar (S.left script.old) → UnlessUnread result.status (IsToldBad (S.left script.old) result.status) }
 
     // Each status but `Memory` has its cause.
     ensures bad_words { (result.status ≡ Status.BadWords) ↔ (is_command words.now ≡ false) }

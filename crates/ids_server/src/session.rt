@@ -13,9 +13,10 @@ ghost use Rattle.ids_engine.specs.Journals.{done_of};
 ghost use Rattle.sql_reader.specs.Lines.{texts_of, statements_in, text_in};
 ghost use Rattle.sql_reader.specs.Plans.{Each, IsPlanOf, IsScriptOf};
 ghost use Rattle.ids_server.specs.Printing.{PrinterPuts};
+ghost use Rattle.ids_server.specs.Moments.{HaveMoments};
 ghost use Rattle.ids_server.specs.Running.{Steps, Fails};
 ghost use Rattle.ids_server.specs.Runners.{running_of, KeepsRun, HasStore};
-ghost use Rattle.ids_server.specs.Serving.{HasRun, is_of_run};
+ghost use Rattle.ids_server.specs.Serving.{HasRun, is_of_session};
 
 use crate::laws::{failures_end, runs_end, runs_start, steps_keep_running};
 use crate::printer::Printer;
@@ -52,7 +53,7 @@ fn put_last<K: Sink>(printer: &mut Printer<K>, given: &[Given], at_once: bool)
 
 // The status of a run that a fault ended.
 fn status_of(fault: StoreFault) -> Status
-    ensures own { is_of_run result ≡ true }
+    ensures own { is_of_session result ≡ true }
     ensures not_done { ¬ (result ≡ Status.Done) }
     ensures not_sink { ¬ (result ≡ Status.SinkFault) }
     ensures disk { result ≡ Status.DiskFault → fault ≡ StoreFault.Disk }
@@ -128,9 +129,10 @@ fn run_all<D: Disk, K: Sink>(
     ensures at_end { result ≡ Status.Done → (since : ℕ) (base : Image) (found : Tables)
         → KeepsRun D.tells D.size D.now D.image D.can_leave D.left_at since base found runner.old disk.old
         → (c : Image) → D.can_leave disk.new c → Recovers c (tables_from found (done_of runner.new.journal.items)) }
+    ensures moments { HaveMoments (D.now disk.new) runner.new.journal.items }
     ensures printed { PrinterPuts K.tells K.taken K.fault_count printer.old printer.new (text runner.new.given.items) }
     ensures failed { result ≡ Status.SinkFault → printer.new.failed ≡ true }
-    ensures own { is_of_run result ≡ true }
+    ensures own { is_of_session result ≡ true }
     ensures later { D.now disk.old ≤ D.now disk.new }
     ensures counted { D.fault_count disk.old ≤ D.fault_count disk.new }
     ensures disk_fault { result ≡ Status.DiskFault → Rose (D.fault_count disk.old) (D.fault_count disk.new) }
@@ -181,10 +183,11 @@ pub(crate) fn run<D: Disk, K: Sink>(
     ensures at_end { result ≡ Status.Done → (since : ℕ) (base : Image) (found : Tables)
         → KeepsRun D.tells D.size D.now D.image D.can_leave D.left_at since base found runner.old disk.old
         → (c : Image) → D.can_leave disk.new c → Recovers c (tables_from found (done_of runner.new.journal.items)) }
+    ensures moments { HaveMoments (D.now disk.new) runner.new.journal.items }
     ensures printed { PrinterPuts K.tells K.taken K.fault_count printer.old printer.new (text runner.new.given.items) }
     ensures clean { printer.new.gathered ≡ [] }
     ensures failed { (result ≡ Status.SinkFault) ↔ (printer.new.failed ≡ true) }
-    ensures own { is_of_run result ≡ true }
+    ensures own { is_of_session result ≡ true }
     ensures later { D.now disk.old ≤ D.now disk.new }
     ensures counted { D.fault_count disk.old ≤ D.fault_count disk.new }
     ensures disk_fault { result ≡ Status.DiskFault → Rose (D.fault_count disk.old) (D.fault_count disk.new) }

@@ -6,7 +6,8 @@ use Rattle.ids_engine.specs.Openings.{Refuses}
 use Rattle.ids_engine.specs.OutOfBlocks.{HasNoBlock}
 use Rattle.fast_recovery.specs.declared.fault.OpenFault.TheVariants.{Disk}
 use Rattle.ids_engine.specs.declared.store.Store.{Store}
-use Rattle.ids_server.specs.Serving.{HasRun, has_opened}
+use Rattle.ids_server.specs.Serving.{HasRun, has_opened, is_before_disk, is_of_refused_disk}
+use Rattle.ids_server.proofs.Told.{sessions_look, sessions_accept}
 use Rattle.ids_server.proofs.Opened.{runs_nothing, runs_shown, keeps_at_start, runs_over}
 use Rattle.ids_server.proofs.opening.run_script.Goals as goal
 
@@ -33,6 +34,7 @@ returns-clause-ran g c = λ bytes is grammar.
           c.in-Ok.ensures.kept
           (λ script each. subst (λ (s : Store). HasRun script s.tables c.run-status.result c.run-status.new.runner.journal.items c.run-status.new.runner.given.items) c.new-runner.ensures.store
           (c.run-status.ensures.ran script bytes is each))
+          c.run-status.ensures.moments
           (λ since base found keeps. c.run-status.ensures.survives since base found (start since base found c.from_disk.new.disk keeps))
           (λ done since base found keeps. c.run-status.ensures.at_end done since base found (start since base found c.from_disk.new.disk keeps))),
     )
@@ -58,3 +60,17 @@ returns-clause-log_full g c = λ full told T recovers.
 pub returns-in-Err-clause-was_formatted : goal.returns-in-Err-clause-was_formatted
 returns-in-Err-clause-was_formatted g c = λ opened told.
     c.status_of.ensures.was_formatted (g.D.Disk.image c.args.disk.now) (c.in-Err.ensures.was_formatted told) (sym (ap has_opened c.nothing.ensures.status) ∙ opened)
+
+pub returns-clause-looked : goal.returns-clause-looked
+returns-clause-looked g c = sessions_look c.run-status.result c.run-status.ensures.own
+
+pub returns-clause-unchanged : goal.returns-clause-unchanged
+returns-clause-unchanged g c = λ refused. cc (refused, sessions_accept c.run-status.result c.run-status.ensures.own)
+
+pub returns-in-Err-clause-looked : goal.returns-in-Err-clause-looked
+returns-in-Err-clause-looked g c = ap is_before_disk c.nothing.ensures.status ∙ c.status_of.ensures.looked
+
+pub returns-in-Err-clause-unchanged : goal.returns-in-Err-clause-unchanged
+returns-in-Err-clause-unchanged g c = λ refused.
+    let is = c.status_of.ensures.refused (sym (ap is_of_refused_disk c.nothing.ensures.status) ∙ refused) in
+    record { same = c.in-Err.ensures.untouched is; stop = c.in-Err.ensures.stop is }

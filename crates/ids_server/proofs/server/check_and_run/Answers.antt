@@ -25,3 +25,6 @@ returns-in-Err-Memory-clause-ran g c =
       runs_none d.tells d.now d.image d.can_leave d.left_at g.met.D.Disk.only_now g.met.D.Disk.no_later c.served_at_start.ensures c.args.bytes.items c.args.disk.now _ _ _ c.nothing-in-Err-Memory.ensures.journal c.nothing-in-Err-Memory.ensures.given
           (ap has_checked c.nothing-in-Err-Memory.ensures.status),
     )
+
+pub returns-in-Ok-clause-untouched : goal.returns-in-Ok-clause-untouched
+returns-in-Ok-clause-untouched g c = λ early. cc (early, c.run_script.ensures.looked)

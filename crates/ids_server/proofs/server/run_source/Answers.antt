@@ -1,6 +1,7 @@
 use Rattle.std.proofs.Common.{refl, ap}
 use Rattle.std.specs.FinMap.{empty}
 use Rattle.ids_server.specs.Serving.{has_checked}
+use Rattle.ids_server.proofs.Told.{scripts_are_run}
 use Rattle.ids_server.proofs.Refused.{runs_none}
 use Rattle.ids_server.proofs.server.run_source.Goals as goal
 
@@ -33,3 +34,6 @@ returns-in-Err-Memory-clause-ran g c =
       runs_none d.tells d.now d.image d.can_leave d.left_at g.met.D.Disk.only_now g.met.D.Disk.no_later c.served_at_start.ensures left c.args.disk.now _ _ _ c.nothing-in-Err-Memory.ensures.journal c.nothing-in-Err-Memory.ensures.given
           (ap has_checked c.nothing-in-Err-Memory.ensures.status),
     )
+
+pub returns-in-Ok-clause-own : goal.returns-in-Ok-clause-own
+returns-in-Ok-clause-own g c = scripts_are_run c.check_and_run.result.status c.check_and_run.ensures.own

@@ -6,6 +6,7 @@ use Rattle.ids_model.specs.Text.{text}
 use Rattle.sql_reader.specs.Lines.{texts_of}
 use Rattle.sql_reader.specs.Plans.{IsScriptOf}
 use Rattle.ids_server.specs.Printing.{PrinterPuts}
+use Rattle.ids_server.specs.Moments.{HaveMoments}
 use Rattle.ids_server.specs.Running.{IsRunning}
 use Rattle.ids_server.specs.Runners.{running_of, KeepsRun, HasStore}
 use Rattle.ids_server.proofs.session.run_all.Given as goal
@@ -16,6 +17,7 @@ invariant-loop-index g l = record {
   store : HasStore g.D.Disk.size g.D.Disk.now g.D.Disk.image g.D.Disk.can_leave g.D.Disk.left_at l.runner l.disk;
   kept : (since : ℕ) (base : Image) (found : Tables) → KeepsRun g.D.Disk.tells g.D.Disk.size g.D.Disk.now g.D.Disk.image g.D.Disk.can_leave g.D.Disk.left_at since base found l.fn.runner l.fn.disk
       → KeepsRun g.D.Disk.tells g.D.Disk.size g.D.Disk.now g.D.Disk.image g.D.Disk.can_leave g.D.Disk.left_at since base found l.runner l.disk;
+  moments : HaveMoments (g.D.Disk.now l.disk) l.runner.journal.items;
   count : length l.runner.given.items ≡ l.index;
   printed : PrinterPuts g.K.Sink.tells g.K.Sink.taken g.K.Sink.fault_count l.fn.printer l.printer (text l.runner.given.items);
   later : g.D.Disk.now l.fn.disk ≤ g.D.Disk.now l.disk;
