@@ -4,15 +4,16 @@ ghost use Rattle.ids_outside.specs.Counts.{HasCause};
 ghost use Rattle.ids_outside.specs.Images.{Image};
 ghost use Rattle.ids_outside.specs.Stops.{AreAmong, Leaves, Only};
 ghost use Rattle.log_records.specs.Bodies.{Body, body_of};
-ghost use Rattle.log_files.specs.Log.{body_at, bodies_from, ring_place, with_number};
+ghost use Rattle.log_files.specs.Log.{IsReadAs, body_at, bodies_from, ring_place};
 ghost use Rattle.log_files.specs.Files.{IsRing, IsReady, IsRead, HasFiles, AreNumbered, Count, Grows, Appends, Clears, KeepsRetained, retained, taken, freed, all_free, next_free};
 
 use gate_blocks::laws::{changes, elsewhere};
 use gate_blocks::{Region, clear_some, open_gates, read_open, write_bodies};
 use ids_outside::{Disk, DiskFault, laws};
 use log_records::block_body::BlockBody;
-use log_records::body_bytes::{body_from_bytes, body_to_bytes};
+use log_records::body_bytes::body_to_bytes;
 use log_records::laws::bodies_are_read;
+use crate::read::{BlockRead, read_as};
 use std::marker::{Brand, Model};
 
 /// How many bodies are written before their gates are opened.
@@ -122,16 +123,17 @@ impl LogFiles {
         Ok(())
     }
 
-    /// The body of a block; none exactly where its place is closed, does not decode or has another number, and for number 0.
-    /// One block is read. Takes no memory.
+    /// What stands at the place of a block: its body; or that it is broken, exactly where its gate is open, it has the number and
+    /// does not decode; or nothing, where its place is closed or has another number, and for number 0. One block is read. Takes no
+    /// memory.
     pub fn read_from<D: Disk>(
         &self,
         disk: &mut D,
         block: u64,
-    ) -> Result<Option<BlockBody>, DiskFault>
+    ) -> Result<BlockRead, DiskFault>
         requires { self.now.region.first + self.now.region.count ≤ D.size disk.old self.now.region.chunk }
 
-        ensures body { IfOk result (λ body. D.tells → body ≡ body_at self.now.region block (D.image disk.old)) }
+        ensures read { IfOk result (λ found. D.tells → IsReadAs self.now.region block (D.image disk.old) found) }
         ensures same { D.image disk.new ≡ D.image disk.old }
         ensures stop { AreAmong (D.can_leave disk.new) (D.can_leave disk.old) }
         ensures any_moment { Leaves D.now D.can_leave D.left_at disk.old disk.new (λ x y. y ≡ x) }
@@ -140,14 +142,15 @@ impl LogFiles {
     {
         laws::started::<D, Brand>();
         if block == 0 {
-            return Ok(None);
+            return Ok(BlockRead::Absent);
         }
         let region = self.region();
         let mut bytes = blank_body();
-        if !read_open(disk, &region, self.place(block), &mut bytes)? {
-            return Ok(None);
+        if read_open(disk, &region, self.place(block), &mut bytes)? {
+            Ok(read_as(&bytes, block))
+        } else {
+            Ok(BlockRead::Absent)
         }
-        Ok(with_number(body_from_bytes(&bytes), block))
     }
 
     /// At opening, when the retained blocks were read: closes the gate of each other block, and syncs. Then each place that is
@@ -364,18 +367,6 @@ impl LogFiles {
         ensures within { result < self.now.region.count }
     {
         ((block - 1) % u64::from(self.region.count)) as u32
-    }
-}
-
-// The body, if it has the number.
-fn with_number(body: Option<BlockBody>, block: u64) -> Option<BlockBody>
-    ensures { result ≡ with_number block body }
-{
-    let body = body?;
-    if body.number() == block {
-        Some(body)
-    } else {
-        None
     }
 }
 

@@ -29,6 +29,7 @@ loop-done-init g c =
         kept = λ b from below. refl;
         new = λ k d lt. absurd (omega (arith, lt));
         behind = λ b from. (c.requires.ready.files x left).ends b (omega (arith, from));
+        whole = (c.requires.ready.files x left).whole;
         elsewhere = none_same (RegionPlaces f.region) x;
       });
       sizes = λ j. refl;
