@@ -15,6 +15,7 @@ use Rattle.chunk_map.specs.declared.checkpoint.CheckpointPage.{CheckpointPage}
 use Rattle.log_records.specs.Entries.{Entry}
 use Rattle.log_records.specs.Bodies.{Body}
 use Rattle.log_records.proofs.Numbers.{both_true}
+use Rattle.log_files.specs.Log.{IsBroken, EndsWhole}
 use Rattle.log_buffer.specs.Kept.{entries_in}
 use Rattle.ids_model.specs.Tables.{Tables}
 use Rattle.ids_model.specs.Slots.{Own, own_all}
@@ -25,7 +26,7 @@ use Rattle.fast_recovery.specs.Images.{first_checkpoint, log_region, log_in, pag
 use Rattle.fast_recovery.specs.Order.{open_by, open_in, closing}
 use Rattle.fast_recovery.specs.RowDamaged.{HasRowDamaged}
 use Rattle.fast_recovery.specs.InPlace.{in_place, all_in_place, is_taken}
-use Rattle.fast_recovery.specs.LogRead.{IsFirstDamagedRecord, IsRecordDamaged, OpenCause}
+use Rattle.fast_recovery.specs.LogRead.{IsFirstDamagedRecord, IsRecordDamaged, IsBlockDamaged, OpenCause}
 use Rattle.fast_recovery.specs.Opening.{IsWant, ClosingFault, IsRefusal}
 use Rattle.fast_recovery.specs.declared.fault.OpenFault.{OpenFault}
 use Rattle.fast_recovery.specs.declared.fault.OpenFault.TheVariants.{Disk, Memory, NotFormatted, Damaged, LogFull}
@@ -97,6 +98,13 @@ module _ (join : RunsJoin) (rolls : RollbacksAreSeen) (one : OneOfEach) (x : Ima
       ap (all_in_place (page_count l) empty) (sym log) ∙ ap (λ (k : Layout). all_in_place (page_count k) empty (log_in k x)) (sym same) ∙ r.in_place in
       false≢true (sym f.refused ∙ is-taken join (page_count l) before rest f.entry f.last r.last order places f.in_order)
 
+  -- no block is broken
+  block-stands : (b : ℕ) → Recovers x T → IsBlockDamaged b x → ⊥
+  block-stands b r why =
+      let l : Layout = why.0 in
+      let same : r.layout ≡ l = one.layout r.layout l x r.base.layout why.1 in
+      (subst (λ (k : Layout). EndsWhole (log_region k) 1 x) same r.whole) (subst (λ (n : ℕ). IsBroken (log_region l) n x) why.2.behind why.2.broken)
+
   -- no row is broken
   rows-stand : (row : ℕ) → Recovers x T → HasRowDamaged x row → ⊥
   rows-stand row r d =
@@ -114,7 +122,7 @@ module _ (join : RunsJoin) (rolls : RollbacksAreSeen) (one : OneOfEach) (x : Ima
   accepted (Damaged (Checkpoint c)) r (inr other) refusal = other.2 (one.newest other.0 first_checkpoint x other.1 r.base.newest)
   accepted (Damaged (EntryAt k)) r why refusal = why
   accepted (Damaged (DataPage k)) r why refusal = why
-  accepted (Damaged (Block b)) r why refusal = why
+  accepted (Damaged (Block b)) r why refusal = block-stands b r why
   accepted (Damaged (Record pos)) r why refusal = records-stand pos r why
   accepted (Damaged (Row n)) r why refusal = rows-stand n r why
   accepted LogFull r why refusal = refusal

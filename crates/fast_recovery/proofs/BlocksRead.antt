@@ -10,15 +10,15 @@ use Rattle.gate_blocks.specs.Gates.{block}
 use Rattle.gate_blocks.specs.declared.region.Region.{Region}
 use Rattle.log_records.specs.Entries.{Entry}
 use Rattle.log_records.specs.Bodies.{Body, body_of}
-use Rattle.log_files.specs.Log.{ring_place, with_number, body_at, follow, bodies_from, tail_from}
+use Rattle.log_files.specs.Log.{ring_place, with_number, body_at, follow, bodies_from, tail_from, IsBroken}
 use Rattle.log_files.proofs.Tails.{HasBody, counted_then, none_from}
-use Rattle.log_files.proofs.Counted.{body_at-in, same_place}
+use Rattle.log_files.proofs.Counted.{body_at-in, same_place, counted_is_whole}
 use Rattle.log_buffer.specs.Kept.{entries_in, tail_entries}
 use Rattle.ids_model.specs.Recovered.{State, nothing, run}
 use Rattle.ids_model.specs.RecoveryLaws.{RunsJoin}
 use Rattle.fast_recovery.specs.Order.{open_in}
 use Rattle.fast_recovery.specs.InPlace.{all_in_place, is_taken}
-use Rattle.fast_recovery.specs.LogRead.{GoesOn, HasRead, IsRefused, IsFirstDamagedRecord}
+use Rattle.fast_recovery.specs.LogRead.{GoesOn, HasRead, IsRefused, IsFirstDamagedRecord, IsBrokenEnd}
 use Rattle.fast_recovery.specs.declared.past.Past.{Past}
 use Rattle.fast_recovery.proofs.Ordered.{goes-none, goes-both}
 
@@ -81,6 +81,14 @@ module _ (r : Region) (x : Image) where
       held b from (inl below) = read.held b from below
       held b from (inr same) = (body, ap (λ n. body_at r n x) same ∙ there)
 
+  -- blocks that count are so many
+  pub length-held : (b n : ℕ) → ((q : ℕ) → b ≤ q → q < b + n → HasBody r x q) → length (bodies_from r b n x) ≡ n
+  length-held b zero held = refl
+  length-held b (suc n) held =
+      let here = held b (omega arith) (omega arith) in
+      ap (λ (o : Option Body). length (follow o (bodies_from r (suc b) n x))) here.1
+      ∙ ap (λ k. suc k) (length-held (suc b) n (λ q from below. held q (omega (arith, from)) (omega (arith, below))))
+
   -- where the next block does not count, the records are those of the log
   tail-is : (n : ℕ) → 1 ≤ n → n ≤ 1 + r.count → ((b : ℕ) → 1 ≤ b → b < n → HasBody r x b) → body_at r n x ≡ None → tail_from r 1 x ≡ bodies_from r 1 (n - 1) x
   tail-is n some within held ends =
@@ -90,9 +98,16 @@ module _ (r : Region) (x : Image) where
       ∙ ap (λ l. bodies_from r 1 (n - 1) x ++ l) (ap (λ q. bodies_from r q (r.count - (n - 1)) x) at ∙ none_from r n (r.count - (n - 1)) x ends)
       ∙ append-nil (bodies_from r 1 (n - 1) x)
 
+  end-is : (n : ℕ) → 1 ≤ n → n ≤ 1 + r.count → ((b : ℕ) → 1 ≤ b → b < n → HasBody r x b) → body_at r n x ≡ None → n ≡ 1 + length (tail_from r 1 x)
+  end-is n some within held ends =
+      let at : 1 + (n - 1) ≡ n = omega (arith, some) in
+      let long : length (tail_from r 1 x) ≡ n - 1 =
+      ap (λ (l : List Body). length l) (tail-is n some within held ends) ∙ length-held 1 (n - 1) (λ q from below. held q from (omega (arith, below, at))) in
+      omega (arith, long, some)
+
   pub read-all : (pages : ℕ) (first p : Past) → first.open_tx ≡ None → first.replay ≡ nothing → 1 ≤ p.next → p.next ≤ 1 + r.count → ReadUpTo pages r x first p → body_at r p.next x ≡ None
-      → HasRead pages r x p
-  read-all pages first p shut from_nothing some within read ends =
+      → ¬ IsBroken r p.next x → HasRead pages r x p
+  read-all pages first p shut from_nothing some within read ends whole =
       let log : tail_entries r 1 x ≡ entries_in (bodies_from r 1 (p.next - 1) x) = ap entries_in (tail-is p.next some within read.held ends) in
       let goes : GoesOn pages first (tail_entries r 1 x) p = subst (λ (l : List Entry). GoesOn pages first l p) (sym log) read.goes in
       record {
@@ -104,14 +119,29 @@ module _ (r : Region) (x : Image) where
         };
         held = read.held;
         ends = ends;
+        whole = λ (broken : IsBroken r (1 + length (tail_from r 1 x)) x). whole (subst (λ (n : ℕ). IsBroken r n x) (sym (end-is p.next some within read.held ends)) broken);
       }
 
-  -- where each block counts, the one behind the last has the place of the first, and does not count
-  pub ends-full : (n : ℕ) → 0 < r.count → n ≡ 1 + r.count → ((b : ℕ) → 1 ≤ b → b < n → HasBody r x b) → body_at r n x ≡ None
+  -- a broken block that comes next is the one behind the tail
+  pub read-broken : (pages : ℕ) (first p : Past) → first.open_tx ≡ None → first.replay ≡ nothing → 1 ≤ p.next → p.next ≤ 1 + r.count → ReadUpTo pages r x first p → body_at r p.next x ≡ None
+      → IsBroken r p.next x → IsBrokenEnd pages r x p.next
+  read-broken pages first p shut from_nothing some within read ends broken =
+      let log : tail_entries r 1 x ≡ entries_in (bodies_from r 1 (p.next - 1) x) = ap entries_in (tail-is p.next some within read.held ends) in
+      let goes : GoesOn pages first (tail_entries r 1 x) p = subst (λ (l : List Entry). GoesOn pages first l p) (sym log) read.goes in
+      record {
+        behind = end-is p.next some within read.held ends;
+        broken = broken;
+        last = p.open_tx;
+        in_order = ap (λ o. open_in o (tail_entries r 1 x)) (sym shut) ∙ goes.order;
+        in_place = subst (λ (s : State). all_in_place pages s.own (tail_entries r 1 x) ≡ true) from_nothing goes.places;
+      }
+
+  -- where each block counts, the one behind the last has the place of the first, does not count and is not broken
+  pub ends-full : (n : ℕ) → 0 < r.count → n ≡ 1 + r.count → ((b : ℕ) → 1 ≤ b → b < n → HasBody r x b) → (body_at r n x ≡ None) × (¬ IsBroken r n x)
   ends-full n some at held =
       let first = held 1 (omega arith) (omega (arith, some, at)) in
       let places : ring_place r 1 ≡ ring_place r n = turn (n - 1) (omega (arith, at)) in
-      same_place r 1 n x first.0 (omega (arith, at)) places (λ e. omega (arith, some, at, e)) first.1
+      (same_place r 1 n x first.0 (omega (arith, at)) places (λ e. omega (arith, some, at, e)) first.1, counted_is_whole r 1 n x first.0 places first.1)
     where
       none : (c : ℕ) → 0 < c → 0 % c ≡ c % c
       none c some' = grind arith
@@ -145,11 +175,3 @@ module _ (r : Region) (x : Image) where
         in_place = subst (λ (s : State). all_in_place pages s.own log ≡ true) from_nothing goes.places;
         refused = subst (λ (s : State). is_taken pages why.last.open_tx s.own why.entry ≡ false) made why.refused;
       }
-
-  -- blocks that count are so many
-  pub length-held : (b n : ℕ) → ((q : ℕ) → b ≤ q → q < b + n → HasBody r x q) → length (bodies_from r b n x) ≡ n
-  length-held b zero held = refl
-  length-held b (suc n) held =
-      let here = held b (omega arith) (omega arith) in
-      ap (λ (o : Option Body). length (follow o (bodies_from r (suc b) n x))) here.1
-      ∙ ap (λ k. suc k) (length-held (suc b) n (λ q from below. held q (omega (arith, from)) (omega (arith, below))))

@@ -56,7 +56,7 @@ module _ (x : Image) where
   log-cause l (Damaged (Checkpoint c)) has h = absurd h
   log-cause l (Damaged (Entry k)) has h = absurd h
   log-cause l (Damaged (DataPage k)) has h = absurd h
-  log-cause l (Damaged (Block b)) has h = absurd h
+  log-cause l (Damaged (Block b)) has h = (l, has, h)
   log-cause l (Damaged (Record pos)) has h = (l, has, h)
   log-cause l (Damaged (Row n)) has h = absurd h
   log-cause l LogFull has h = absurd h

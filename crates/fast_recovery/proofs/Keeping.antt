@@ -8,7 +8,7 @@ use Rattle.ids_outside.specs.Stops.{Only, Leaves}
 use Rattle.gate_blocks.specs.Gates.{block}
 use Rattle.log_records.specs.Entries.{Entry}
 use Rattle.log_records.specs.Bodies.{Body}
-use Rattle.log_files.specs.Log.{body_at}
+use Rattle.log_files.specs.Log.{body_at, EndsWhole}
 use Rattle.log_files.specs.Files.{Files, IsReady, IsRead, all_free}
 use Rattle.chunk_map.specs.declared.layout.Layout.{Layout}
 use Rattle.chunk_map.specs.Layouts.{IsLayout, HasPages}
@@ -31,11 +31,12 @@ is-read size image can_leave tells l next disk layout pages only told held ends 
   ends = λ x left. ap (λ y. body_at (log_region l) next y) (only x left) ∙ ends (told x left);
 }
 
--- an image has its own log
-same-log : (f : Files) (x : Image) → SameLog f x x
-same-log f x = record {
+-- an image whose log ends whole has its own log
+pub same-log : (f : Files) (x : Image) → EndsWhole f.region f.first x → SameLog f x x
+same-log f x whole = record {
   elsewhere = record { chunks = refl; lengths = λ j. refl; bytes = λ j i no. refl };
   tail = sym (append-nil (tail_entries f.region f.first x));
+  whole = whole;
 }
 
 -- what was flushed at all was flushed by each moment
@@ -64,17 +65,17 @@ outlives-more now left_at since base before all marks f disk outlives = λ room 
 module _ {D : Type 0} (size : D → ℕ → ℕ) (now : D → ℕ) (image : D → Image) (can_leave : D → Image → Type 0) (left_at : D → ℕ → Image → Type 0)
     (no_later : (d : D) (m : ℕ) (c : Image) → left_at d m c → m ≤ now d) (only_now : (d : D) (c : Image) → now d < last_count → left_at d (now d) c → can_leave d c) where
   -- a stop since the beginning left its log
-  pub same-since : (old mid new : D) (f : Files) → Leaves now can_leave left_at old mid (λ x y. y ≡ x) → OnlyBehind now left_at (image old) old mid → Only (image old) (can_leave mid)
+  pub same-since : (old mid new : D) (f : Files) → EndsWhole f.region f.first (image old) → Leaves now can_leave left_at old mid (λ x y. y ≡ x) → OnlyBehind now left_at (image old) old mid → Only (image old) (can_leave mid)
       → Leaves now can_leave left_at mid new (SameLog f) → now new < last_count → (m : ℕ) (c : Image) → IsSince now image can_leave old m → left_at new m c → SameLog f (image old) c
-  same-since old mid new f first behind settled last room m c since left = at (order m (now mid)) since
+  same-since old mid new f whole first behind settled last room m c since left = at (order m (now mid)) since
     where
       at : (now mid ≤ m) ⊎ (m < now mid) → IsSince now image can_leave old m → SameLog f (image old) c
       at (inl late) since = let was = last.during room m late c left in subst (λ (x : Image). SameLog f x c) (settled was.0 was.1) was.2
       at (inr early) (inl only) =
           let was = first.during (omega (arith, room, last.later)) m only.0 c (last.before room m early c left) in
-          subst (λ (y : Image). SameLog f (image old) y) (sym (was.2 ∙ only.1 was.0 was.1)) (same-log f (image old))
+          subst (λ (y : Image). SameLog f (image old) y) (sym (was.2 ∙ only.1 was.0 was.1)) (same-log f (image old) whole)
       at (inr early) (inr from) =
-          subst (λ (y : Image). SameLog f (image old) y) (sym (behind (omega (arith, room, last.later)) m c from (last.before room m early c left))) (same-log f (image old))
+          subst (λ (y : Image). SameLog f (image old) y) (sym (behind (omega (arith, room, last.later)) m c from (last.before room m early c left))) (same-log f (image old) whole)
 
   -- a later moment is one since the beginning too
   since-later : (old : D) (since m : ℕ) → IsSince now image can_leave old since → since ≤ m → IsSince now image can_leave old m
@@ -83,11 +84,11 @@ module _ {D : Type 0} (size : D → ℕ → ℕ) (now : D → ℕ) (image : D �
 
   -- so it is kept since then
   pub keeps-cleared : (old mid new : D) (l : Layout) (next : ℕ) (f : Files) (b : Buffer) (since : ℕ)
-      → f ≡ all_free (files_from l next) → b ≡ empty_at next → IsReady size image can_leave f new
+      → f ≡ all_free (files_from l next) → b ≡ empty_at next → IsReady size image can_leave f new → ((m : ℕ) (c : Image) → left_at new m c → EndsWhole (log_region l) 1 (image old))
       → Leaves now can_leave left_at old mid (λ x y. y ≡ x) → OnlyBehind now left_at (image old) old mid → Only (image old) (can_leave mid)
       → Leaves now can_leave left_at mid new (SameLog (files_from l next)) → IsSince now image can_leave old since
       → KeepsLog size now image can_leave left_at since (image old) (log_in l (image old)) [] [] f b new
-  keeps-cleared old mid new l next f b since files buffer ready first behind settled last is =
+  keeps-cleared old mid new l next f b since files buffer ready whole first behind settled last is =
       subst (λ (g : Files). KeepsLog size now image can_leave left_at since base (log_in l base) [] [] g b new) (sym files)
       (subst (λ (a : Buffer). KeepsLog size now image can_leave left_at since base (log_in l base) [] [] free a new) (sym buffer) (record {
         ready = subst (λ (g : Files). IsReady size image can_leave g new) files ready;
@@ -100,7 +101,7 @@ module _ {D : Type 0} (size : D → ℕ → ℕ) (now : D → ℕ) (image : D �
           front = [];
           rest = [];
           parts = refl;
-          log = of_base c (same-since old mid new (files_from l next) first behind settled last room m c (since-later old since m is from) left);
+          log = of_base c (same-since old mid new (files_from l next) (whole m c left) first behind settled last room m c (since-later old since m is from) left);
           flushed = tt;
         };
       }))
@@ -112,7 +113,7 @@ module _ {D : Type 0} (size : D → ℕ → ℕ) (now : D → ℕ) (image : D �
       free = all_free (files_from l next)
 
       of_base : (c : Image) → SameLog (files_from l next) base c → HasLog free base (log_in l base) [] c
-      of_base c same = record { elsewhere = same.elsewhere; tail = same.tail }
+      of_base c same = record { elsewhere = same.elsewhere; tail = same.tail; whole = same.whole }
 
       held : (c : Image) → can_leave new c → HasLog free base (log_in l base) [] c
       held c left = let was = last.ends c left in of_base c (subst (λ (x : Image). SameLog (files_from l next) x c) (settled was.0 was.1) was.2)

@@ -7,6 +7,8 @@ use Rattle.gate_blocks.specs.Gates.{RegionPlaces}
 use Rattle.chunk_map.specs.declared.layout.Layout.{Layout}
 use Rattle.chunk_map.specs.Formatted.{HasLayout}
 use Rattle.log_records.specs.Entries.{Entry, Rollback}
+use Rattle.gate_blocks.specs.declared.region.Region.{Region}
+use Rattle.log_files.specs.Log.{EndsWhole}
 use Rattle.log_files.specs.Files.{Files}
 use Rattle.log_buffer.specs.Kept.{HasLog, tail_entries}
 use Rattle.ids_model.specs.Tables.{Tables}
@@ -74,5 +76,6 @@ module _ (join : RunsJoin) (rolls : RollbacksAreSeen) where
         in_order = ap (open_in None) tail ∙ still.1;
         in_place = ap (all_in_place (page_count l) empty) tail
             ∙ places-append join (page_count l) empty (log_in l x) front placed (places-closing join (page_count l) (own_all empty (owns (log_in l x))) o front rest parts);
+        whole = subst (λ (at : Region × ℕ). EndsWhole at.0 at.1 y) (λ i. (region i, first i)) log.whole;
         tables = subst (λ t. IsRecovered t T) (sym tail) (front-recovers (log_in l x) front rest o T order parts tables);
       }

@@ -9,6 +9,7 @@ use Rattle.chunk_map.specs.declared.checkpoint.CheckpointPage.{CheckpointPage}
 use Rattle.chunk_map.specs.Checkpoints.{IsNewest}
 use Rattle.chunk_map.specs.Formatted.{HasLayout}
 use Rattle.log_records.specs.Entries.{Entry}
+use Rattle.log_files.specs.Log.{EndsWhole}
 use Rattle.log_buffer.specs.Kept.{tail_entries}
 use Rattle.ids_model.specs.Tables.{Tables}
 use Rattle.ids_model.specs.Logged.{IsRecovered}
@@ -45,11 +46,13 @@ pub record HasEmptyBase (l : Layout) (x : Image) : Type 0 where
   pub physical : (k : ℕ) → k < l.phys → block (phys_region l) k x ≡ None
   pub unowned : (chunk : ℕ) → 1 ≤ chunk → chunk ≤ l.chunks → IsZero x chunk (2048 * l.data_pages)
 
--- the tables that are recovered from an image are those that its log stands for, whose records are in order and in their places, and whose rows are well formed
+-- the tables that are recovered from an image are those that its log stands for, whose records are in order and in their places, and whose rows are well formed; the
+-- block behind the log's tail is not broken
 pub record Recovers (x : Image) (T : Tables) : Type 0 where
   pub layout : Layout
   pub base : HasEmptyBase layout x
   pub last : Option ℕ
   pub in_order : open_in None (log_in layout x) ≡ Some last
   pub in_place : all_in_place (page_count layout) empty (log_in layout x) ≡ true
+  pub whole : EndsWhole (log_region layout) 1 x
   pub tables : IsRecovered (log_in layout x) T

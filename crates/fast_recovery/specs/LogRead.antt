@@ -1,5 +1,5 @@
 -- What is read of an image at opening, and why it is not opened.
-use Rattle.std.specs.Prelude.{◌≡◌, ◌≢◌, ◌<◌, ◌≤◌, ◌⊎◌, ℕ, ◌*◌, true, false, List, [], ◌∷◌, ◌++◌, length, Option, Some, None}
+use Rattle.std.specs.Prelude.{◌≡◌, ◌≢◌, ◌<◌, ◌≤◌, ◌⊎◌, ℕ, ◌+◌, ◌*◌, true, false, List, [], ◌∷◌, ◌++◌, length, Option, Some, None}
 use Rattle.std.specs.List.{AllByRecursion}
 use Rattle.std.specs.FinMap.{empty}
 use Rattle.ids_base.specs.declared.position.LogPos.{LogPos}
@@ -14,7 +14,7 @@ use Rattle.chunk_map.specs.Formatted.{HasLayout, IsFormatted, IsIdentityDamaged}
 use Rattle.log_records.specs.Entries.{Entry}
 use Rattle.log_records.specs.Spelling.{tx_of}
 use Rattle.log_records.specs.Bodies.{Body}
-use Rattle.log_files.specs.Log.{body_at, tail_from}
+use Rattle.log_files.specs.Log.{body_at, tail_from, IsBroken, EndsWhole}
 use Rattle.log_buffer.specs.Kept.{entries_in, tail_entries}
 use Rattle.ids_model.specs.Slots.{own_all}
 use Rattle.ids_model.specs.Recovered.{SlotChange, nothing, run, owns, AreOf}
@@ -50,11 +50,12 @@ abbrev pub AreAlone : Option ℕ → List SlotChange → Type 0
 AreAlone None cs = cs ≡ []
 AreAlone (Some tx) cs = AreOf tx cs
 
--- the records are those of the blocks from 1 on to before the next, which does not count
+-- the records are those of the blocks from 1 on to before the next, which does not count and is not broken
 pub record HasRead (pages : ℕ) (r : Region) (x : Image) (p : Past) : Type 0 where
   pub after : IsAfter pages (tail_entries r 1 x) p
   pub held : (b : ℕ) → 1 ≤ b → b < p.next → (body : Body) × (body_at r b x ≡ Some body)
   pub ends : body_at r p.next x ≡ None
+  pub whole : EndsWhole r 1 x
 
 -- the record at a place, in the block that comes next after this past, is the first of its records that is not taken
 pub record IsRefused (pages : ℕ) (p : Past) (es : List Entry) (pos : LogPos) : Type 0 where
@@ -103,6 +104,14 @@ pub record IsFirstDamagedRecord (pages : ℕ) (r : Region) (x : Image) (pos : Lo
   -- and it is not taken
   pub refused : is_taken pages last (own_all empty (owns (entries_in before ++ front))) entry ≡ false
 
+-- the block behind the tail is broken, and has this number; the records before it are in order and in their places
+pub record IsBrokenEnd (pages : ℕ) (r : Region) (x : Image) (b : ℕ) : Type 0 where
+  pub behind : b ≡ 1 + length (tail_from r 1 x)
+  pub broken : IsBroken r b x
+  pub last : Option ℕ
+  pub in_order : open_in None (tail_entries r 1 x) ≡ Some last
+  pub in_place : all_in_place pages empty (tail_entries r 1 x) ≡ true
+
 -- why the log of a region is not read
 abbrev pub LogFault : ℕ → Region → Image → OpenFault → Type 0
 LogFault pages r x Disk = Unit {0}
@@ -112,7 +121,7 @@ LogFault pages r x (Damaged Identity) = ⊥
 LogFault pages r x (Damaged (Checkpoint c)) = ⊥
 LogFault pages r x (Damaged (EntryAt k)) = ⊥
 LogFault pages r x (Damaged (DataPage k)) = ⊥
-LogFault pages r x (Damaged (Block b)) = ⊥
+LogFault pages r x (Damaged (Block b)) = IsBrokenEnd pages r x b
 LogFault pages r x (Damaged (Record pos)) = IsFirstDamagedRecord pages r x pos
 LogFault pages r x (Damaged (Row n)) = ⊥
 LogFault pages r x LogFull = ⊥
@@ -125,13 +134,17 @@ IsOtherCheckpoint c x = IsFirstDamaged c x ⊎ ((p : CheckpointPage) × IsNewest
 abbrev pub IsRecordDamaged : LogPos → Image → Type 0
 IsRecordDamaged pos x = (l : Layout) × HasLayout l x × IsFirstDamagedRecord (page_count l) (log_region l) x pos
 
+-- the block with this number, behind the tail of the image's log, is broken
+abbrev pub IsBlockDamaged : ℕ → Image → Type 0
+IsBlockDamaged b x = (l : Layout) × HasLayout l x × IsBrokenEnd (page_count l) (log_region l) x b
+
 -- what is damaged at a place
 abbrev pub IsDamagedAt : Image → Place → Type 0
 IsDamagedAt x Identity = IsIdentityDamaged x
 IsDamagedAt x (Checkpoint c) = IsOtherCheckpoint c x
 IsDamagedAt x (EntryAt k) = ⊥
 IsDamagedAt x (DataPage k) = ⊥
-IsDamagedAt x (Block b) = ⊥
+IsDamagedAt x (Block b) = IsBlockDamaged b x
 IsDamagedAt x (Record pos) = IsRecordDamaged pos x
 IsDamagedAt x (Row n) = HasRowDamaged x n
 

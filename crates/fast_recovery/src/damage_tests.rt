@@ -1,10 +1,12 @@
-//! Logs with one record that is not taken, and the place that opening names.
+//! Logs with one record that is not taken, or with a block that is broken, and the place that opening names.
 use crate::fault::OpenFault;
+use crate::opening::open_log;
 use crate::opening_tests::{FIRST, append, body, insert, open, small_disk};
 use ids_base::position::LogPos;
 use ids_base::row_bytes::RowBytes;
 use ids_base::row_id::RowId;
 use ids_base::status::Place;
+use ids_outside::{Disk, MemDisk};
 use log_records::record::{Record, Updated};
 use std::alloc::Global;
 use std::process::Abort;
@@ -209,5 +211,35 @@ fn the_first_record_out_of_order_is_named(rt: HostRuntime) -> Result<(), Fail> {
     let begin = Record::Begin { tx: 1, session: 1 };
     let log = [begin, insert(alloc, 1, 257, FIRST)?];
     assert_eq!(rt; out_of_order(&rt, alloc, &log)?, at(2, 0));
+    Ok(())
+}
+
+// Writes over the byte of a block that is 0 where it has less than 256 records.
+fn write_count(disk: &mut MemDisk, block: u64, byte: u8) -> Result<(), Fail> {
+    if block > 24 || disk.pages(0) != 43 {
+        return Err("no such block".into());
+    }
+    let at = 2048 * (18 + block) + 10;
+    disk.write_at(0, at, &[byte]).map_err(|_| "a fault".into())
+}
+
+#[test]
+fn a_broken_block_is_named_and_loses_nothing(rt: HostRuntime) -> Result<(), Fail> {
+    let alloc = rt.alloc();
+    let mut disk = small_disk(&rt, alloc)?;
+    let first = [
+        Record::Begin { tx: 1, session: 1 },
+        insert(alloc, 1, 257, FIRST)?,
+    ];
+    let bodies = [body(&rt, 1, &first), body(&rt, 2, &[Record::Rollback { tx: 1 }])];
+    assert_eq!(rt; append(&mut disk, &bodies), Ok(()));
+    for block in [1, 2] {
+        write_count(&mut disk, block, 4)?;
+        let opened = open_log(alloc, &mut disk).err();
+        assert_eq!(rt; opened, Some(OpenFault::Damaged(Place::Block(block))));
+        write_count(&mut disk, block, 0)?;
+    }
+    let opened = open_log(alloc, &mut disk).ok().ok_or("not opened")?;
+    assert_eq!(rt; opened.files.next(), 3);
     Ok(())
 }

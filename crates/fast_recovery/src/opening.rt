@@ -17,7 +17,7 @@ ghost use Rattle.chunk_map.specs.Checkpoints.{IsNewest, page_of};
 ghost use Rattle.chunk_map.specs.Formatted.{HasLayout, IsFormatted};
 ghost use Rattle.log_records.specs.Bodies.{Body};
 ghost use Rattle.log_records.specs.Entries.{Entry};
-ghost use Rattle.log_files.specs.Log.{body_at};
+ghost use Rattle.log_files.specs.Log.{body_at, EndsWhole};
 ghost use Rattle.log_files.specs.Files.{IsReady, all_free, taken};
 ghost use Rattle.log_buffer.specs.Buffers.{empty_at};
 ghost use Rattle.log_buffer.specs.Kept.{Flushed, KeepsLog, Outlives};
@@ -208,9 +208,10 @@ fn start_log<D: Disk>(
     requires from { 1 ≤ next }
     requires to { next ≤ 1 + layout.now.logs * layout.now.log_size }
     requires settled { Only (D.image disk.old) (D.can_leave disk.old) }
-    // The blocks before the next were read, and the next does not count.
+    // The blocks before the next were read, and the next does not count and is not broken.
     requires held { D.tells → (b : ℕ) → 1 ≤ b → b < next → (body : Body) × (body_at (log_region layout.now) b (D.image disk.old) ≡ Some body) }
     requires ends { D.tells → body_at (log_region layout.now) next (D.image disk.old) ≡ None }
+    requires whole { D.tells → EndsWhole (log_region layout.now) 1 (D.image disk.old) }
 
     ensures files { IfOk result (λ r. r.0 ≡ all_free (files_from layout.now next)) }
     ensures buffer { IfOk result (λ r. r.1 ≡ empty_at next) }

@@ -13,6 +13,7 @@ use ids_base::row_bytes::RowBytes;
 use ids_base::row_id::RowId;
 use ids_base::status::Place;
 use ids_outside::{Disk, Leave, MemDisk, is_image};
+use log_files::BlockRead;
 use log_records::block_body::{BlockBody, put};
 use log_records::record::Record;
 use std::alloc::Global;
@@ -59,7 +60,7 @@ pub(crate) fn append<D: Disk>(disk: &mut D, bodies: &[BlockBody]) -> Result<(), 
     }
     disk.sync()?;
     let mut files = files_of(&SMALL, 1);
-    if files.read_from(disk, 1)?.is_some() {
+    if !matches!(files.read_from(disk, 1)?, BlockRead::Absent) {
         return Err(OpenFault::Disk);
     }
     files.clear_rest(disk)?;

@@ -7,14 +7,15 @@ ghost use Rattle.fast_recovery.specs.LogRead.{HasRead, AreAlone, LogFault};
 
 use crate::fault::OpenFault;
 use crate::past::Past;
+use ids_base::status::Place;
 use ids_model::recovery_laws::runs_join;
 use ids_outside::{Disk, laws};
-use log_files::LogFiles;
+use log_files::{BlockRead, LogFiles};
 use std::alloc::Global;
 use std::marker::Brand;
 
 /// Reads the blocks from number 1 on up to the first that does not count, each once; their records are of the pages from 1 to
-/// this many.
+/// this many. A broken block is damage.
 pub(crate) fn read_log<D: Disk>(
     alloc: Global,
     disk: &mut D,
@@ -43,8 +44,11 @@ pub(crate) fn read_log<D: Disk>(
     let last = u64::from(files.region().count);
     let mut past = Past::new(alloc);
     while past.next <= last {
-        let Some(body) = files.read_from(disk, past.next)? else {
-            return Ok(past);
+        let found = files.read_from(disk, past.next)?;
+        let body = match found {
+            BlockRead::Body(body) => body,
+            BlockRead::Absent => return Ok(past),
+            BlockRead::Broken => return Err(OpenFault::Damaged(Place::Block(past.next))),
         };
         past.note_body(alloc, &body, pages)?;
     }

@@ -4,7 +4,7 @@ use Rattle.ids_outside.specs.Images.{Image}
 use Rattle.ids_outside.specs.Stops.{Only}
 use Rattle.chunk_map.specs.declared.layout.Layout.{Layout}
 use Rattle.chunk_map.specs.Formatted.{HasLayout}
-use Rattle.log_files.specs.Log.{body_at}
+use Rattle.log_files.specs.Log.{body_at, EndsWhole}
 use Rattle.log_files.specs.Files.{Files}
 use Rattle.log_buffer.specs.Kept.{KeepsLog}
 use Rattle.ids_model.specs.Recovered.{State, nothing, run}
@@ -85,7 +85,7 @@ returns-in_err-files-clause-any_moment g c = λ room.
     let laws : Laws = record { apart = c.apart.ensures.blocks; pages = c.same_pages.ensures.apart; newest = c.same_pages.ensures.newest } in
     let settled : Only base (d.can_leave mid) = subst (λ (w : Image). Only w (d.can_leave mid)) c.read_disk.ensures.same c.in_ok-layout.ensures.settled in
     let found = c.in_ok-layout.ensures.found (g.met.D.Disk.left_tells new m y left) in
-    let same = same-since d.size d.now d.image d.can_leave d.left_at g.met.D.Disk.no_later g.met.D.Disk.only_now old mid new f c.read_disk.ensures.any_moment (not-failed _ _ c.in_ok-layout.ensures.behind) settled
+    let same = same-since d.size d.now d.image d.can_leave d.left_at g.met.D.Disk.no_later g.met.D.Disk.only_now old mid new f found.read.whole c.read_disk.ensures.any_moment (not-failed _ _ c.in_ok-layout.ensures.behind) settled
     c.start_log.ensures.any_moment room m y since left in
     keeps-tables c.runs_join.ensures c.rollbacks_are_seen.ensures laws c.one_of_each.ensures.layout l f p.open_tx [] (closing p.open_tx) base y
     refl refl found.layout found.read.after.order refl same)
@@ -98,7 +98,7 @@ returns-in_err-close_log-clause-any_moment g c = λ room.
     let laws : Laws = record { apart = c.apart.ensures.blocks; pages = c.same_pages.ensures.apart; newest = c.same_pages.ensures.newest } in
     let settled : Only base (d.can_leave mid) = subst (λ (w : Image). Only w (d.can_leave mid)) c.read_disk.ensures.same c.in_ok-layout.ensures.settled in
     let keeps = keeps-cleared d.size d.now d.image d.can_leave d.left_at g.met.D.Disk.no_later g.met.D.Disk.only_now old mid start l p.next c.in_ok-files.files c.in_ok-files.buffer m
-    c.in_ok-files.ensures.files c.in_ok-files.ensures.buffer c.in_ok-files.ensures.ready c.read_disk.ensures.any_moment (not-failed _ _ c.in_ok-layout.ensures.behind) settled c.start_log.ensures.any_moment
+    c.in_ok-files.ensures.files c.in_ok-files.ensures.buffer c.in_ok-files.ensures.ready (λ m y left. (c.in_ok-layout.ensures.found (g.met.D.Disk.left_tells start m y left)).read.whole) c.read_disk.ensures.any_moment (not-failed _ _ c.in_ok-layout.ensures.behind) settled c.start_log.ensures.any_moment
     since in
     let found = c.in_ok-layout.ensures.found (g.met.D.Disk.left_tells new m y left) in
     let was = c.in_err-close_log.ensures.outlives m base (log_in l base) keeps room m y (let same : m ≤ m = omega arith in same) left in
@@ -160,7 +160,7 @@ returns-clause-ready g c =
     let mid = c.read_disk.new.disk in let start = c.start_log.new.disk in
     let settled : Only base (d.can_leave mid) = subst (λ (w : Image). Only w (d.can_leave mid)) c.read_disk.ensures.same c.in_ok-layout.ensures.settled in
     let keeps = keeps-cleared d.size d.now d.image d.can_leave d.left_at g.met.D.Disk.no_later g.met.D.Disk.only_now old mid start l p.next c.in_ok-files.files c.in_ok-files.buffer (d.now old + 1)
-    c.in_ok-files.ensures.files c.in_ok-files.ensures.buffer c.in_ok-files.ensures.ready c.read_disk.ensures.any_moment (not-failed _ _ c.in_ok-layout.ensures.behind) settled c.start_log.ensures.any_moment (inr (omega arith)) in
+    c.in_ok-files.ensures.files c.in_ok-files.ensures.buffer c.in_ok-files.ensures.ready (λ m y left. (c.in_ok-layout.ensures.found (g.met.D.Disk.left_tells start m y left)).read.whole) c.read_disk.ensures.any_moment (not-failed _ _ c.in_ok-layout.ensures.behind) settled c.start_log.ensures.any_moment (inr (omega arith)) in
     (c.in_ok-close_log.ensures.keeps (d.now old + 1) base (log_in l base) keeps).1.ready
 
 pub returns-clause-keeps : goal.returns-clause-keeps
@@ -171,7 +171,7 @@ returns-clause-keeps g c = λ tells since is.
     let settled : Only base (d.can_leave mid) = subst (λ (w : Image). Only w (d.can_leave mid)) c.read_disk.ensures.same c.in_ok-layout.ensures.settled in
     let kept = c.in_ok-close_log.ensures.keeps since base (log_in l base)
     (keeps-cleared d.size d.now d.image d.can_leave d.left_at g.met.D.Disk.no_later g.met.D.Disk.only_now old mid start l p.next c.in_ok-files.files c.in_ok-files.buffer since
-    c.in_ok-files.ensures.files c.in_ok-files.ensures.buffer c.in_ok-files.ensures.ready c.read_disk.ensures.any_moment (not-failed _ _ c.in_ok-layout.ensures.behind) settled c.start_log.ensures.any_moment is) in
+    c.in_ok-files.ensures.files c.in_ok-files.ensures.buffer c.in_ok-files.ensures.ready (λ m y left. (c.in_ok-layout.ensures.found (g.met.D.Disk.left_tells start m y left)).read.whole) c.read_disk.ensures.any_moment (not-failed _ _ c.in_ok-layout.ensures.behind) settled c.start_log.ensures.any_moment is) in
     let found = c.in_ok-layout.ensures.found tells in let lay = c.in_ok-close_log.ensures.layout in
     record {
       last = p.open_tx;
@@ -189,7 +189,7 @@ returns-clause-any_moment g c = λ room.
     let laws : Laws = record { apart = c.apart.ensures.blocks; pages = c.same_pages.ensures.apart; newest = c.same_pages.ensures.newest } in
     let settled : Only base (d.can_leave mid) = subst (λ (w : Image). Only w (d.can_leave mid)) c.read_disk.ensures.same c.in_ok-layout.ensures.settled in
     let keeps = keeps-cleared d.size d.now d.image d.can_leave d.left_at g.met.D.Disk.no_later g.met.D.Disk.only_now old mid start l p.next c.in_ok-files.files c.in_ok-files.buffer m
-    c.in_ok-files.ensures.files c.in_ok-files.ensures.buffer c.in_ok-files.ensures.ready c.read_disk.ensures.any_moment (not-failed _ _ c.in_ok-layout.ensures.behind) settled c.start_log.ensures.any_moment
+    c.in_ok-files.ensures.files c.in_ok-files.ensures.buffer c.in_ok-files.ensures.ready (λ m y left. (c.in_ok-layout.ensures.found (g.met.D.Disk.left_tells start m y left)).read.whole) c.read_disk.ensures.any_moment (not-failed _ _ c.in_ok-layout.ensures.behind) settled c.start_log.ensures.any_moment
     since in
     let found = c.in_ok-layout.ensures.found (g.met.D.Disk.left_tells new m y left) in
     let was = (c.in_ok-close_log.ensures.keeps m base (log_in l base) keeps).1.outlives room m y (let same : m ≤ m = omega arith in same) left in
@@ -230,3 +230,7 @@ returns-in_err-found-clause-accepts g c =
     (rows-cause base l p c.in_err-found.field-0.0 found.layout found.read.after
     (c.runs_join.ensures nothing (log_in l base) (closing p.open_tx))
     (subst (λ (s : State). RowsFault s c.in_err-found.field-0.0) c.in_ok-note_end.ensures c.in_err-found.ensures.fault))))
+
+pub start_log-requires-clause-whole : goal.start_log-requires-clause-whole
+start_log-requires-clause-whole g c = λ tells.
+    subst (λ (y : Image). EndsWhole (log_region c.in_ok-layout.layout) 1 y) (sym c.read_disk.ensures.same) (c.in_ok-layout.ensures.found tells).read.whole
