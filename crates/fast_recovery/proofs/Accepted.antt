@@ -1,5 +1,5 @@
 -- An image from which tables are recovered is formatted, and nothing of it is damaged.
-use Rattle.std.proofs.Common.{◌≡◌, inl, inr, ℕ, true, ◌&&◌, List, [], ◌∷◌, ◌++◌, take, codes, Option, Some, None, refl, sym, ◌∙◌, ap, subst, append_assoc}
+use Rattle.std.proofs.Common.{◌≡◌, inl, inr, ℕ, max, true, ◌&&◌, List, [], ◌∷◌, ◌++◌, take, codes, Option, Some, None, refl, sym, ◌∙◌, ap, subst, append_assoc}
 use Rattle.std.specs.Prelude.{is_some}
 use Rattle.std.specs.FinMap.{empty}
 use Rattle.std.proofs.lemmas.Bool.{false≢true}
@@ -13,6 +13,7 @@ use Rattle.chunk_map.specs.Formatted.{HasLayout, IsFormatted}
 use Rattle.chunk_map.specs.declared.layout.Layout.{Layout}
 use Rattle.chunk_map.specs.declared.checkpoint.CheckpointPage.{CheckpointPage}
 use Rattle.log_records.specs.Entries.{Entry}
+use Rattle.log_records.specs.Spelling.{tx_of}
 use Rattle.log_records.specs.Bodies.{Body}
 use Rattle.log_records.proofs.Numbers.{both_true}
 use Rattle.log_files.specs.Log.{IsBroken, EndsWhole}
@@ -26,12 +27,14 @@ use Rattle.fast_recovery.specs.Images.{first_checkpoint, log_region, log_in, pag
 use Rattle.fast_recovery.specs.Order.{open_by, open_in, closing}
 use Rattle.fast_recovery.specs.RowDamaged.{HasRowDamaged}
 use Rattle.fast_recovery.specs.InPlace.{in_place, all_in_place, is_taken}
+use Rattle.fast_recovery.specs.Rising.{rises, all_rise, greatest_in}
 use Rattle.fast_recovery.specs.LogRead.{IsFirstDamagedRecord, IsRecordDamaged, IsBlockDamaged, OpenCause}
 use Rattle.fast_recovery.specs.Opening.{IsWant, ClosingFault, IsRefusal}
 use Rattle.fast_recovery.specs.declared.fault.OpenFault.{OpenFault}
 use Rattle.fast_recovery.specs.declared.fault.OpenFault.TheVariants.{Disk, Memory, NotFormatted, Damaged, LogFull}
 use Rattle.fast_recovery.proofs.Ordered.{open_in-none}
-use Rattle.fast_recovery.proofs.Placed.{places-split}
+use Rattle.fast_recovery.proofs.Placed.{and-is, places-split}
+use Rattle.fast_recovery.proofs.Rises.{rises-split}
 use Rattle.fast_recovery.proofs.Broken.{not_broken}
 use Rattle.fast_recovery.proofs.SeenTables.{closed-whole}
 
@@ -60,16 +63,19 @@ module _ (x : Image) (newest : IsNewest first_checkpoint x) where
       none : NoCheckpoint x → ⊥
       none closed = cc (closed.0, newest.page.block)
 
--- a record among records in order and in their places is taken
+-- a record among records in order and in their places, which rise, is taken
 is-taken : RunsJoin → (pages : ℕ) (xs rest : List Entry) (e : Entry) (o last : Option ℕ) → open_in None (xs ++ e ∷ rest) ≡ Some last → all_in_place pages empty (xs ++ e ∷ rest) ≡ true
-    → open_in None xs ≡ Some o → is_taken pages o (own_all empty (owns xs)) e ≡ true
-is-taken join pages xs rest e o last order places before = at (open_by o e) refl
+    → all_rise 0 (xs ++ e ∷ rest) ≡ true → open_in None xs ≡ Some o → is_taken pages (greatest_in xs) o (own_all empty (owns xs)) e ≡ true
+is-taken join pages xs rest e o last order places rising before = and-is (is_some (open_by o e) && in_place pages own e) (rises (greatest_in xs) e) (at (open_by o e) refl) up
   where
     own : Own
     own = own_all empty (owns xs)
 
     here : in_place pages own e ≡ true
     here = (both_true (in_place pages own e) (all_in_place pages (own_all own (owns (e ∷ []))) rest) (places-split join pages empty xs (e ∷ rest) places).1).0
+
+    up : rises (greatest_in xs) e ≡ true
+    up = (both_true (rises (greatest_in xs) e) (all_rise (max (greatest_in xs) (tx_of e)) rest) (rises-split 0 xs (e ∷ rest) rising).1).0
 
     at : (m : Option (Option ℕ)) → open_by o e ≡ m → (is_some m && in_place pages own e) ≡ true
     at None none = let out : open_in None (xs ++ e ∷ rest) ≡ None = open_in-none None o xs e rest before none in cc
@@ -96,7 +102,9 @@ module _ (join : RunsJoin) (rolls : RollbacksAreSeen) (one : OneOfEach) (x : Ima
       let order : open_in None (before ++ f.entry ∷ rest) ≡ Some r.last = ap (open_in None) (sym log) ∙ ap (λ (k : Layout). open_in None (log_in k x)) (sym same) ∙ r.in_order in
       let places : all_in_place (page_count l) empty (before ++ f.entry ∷ rest) ≡ true =
       ap (all_in_place (page_count l) empty) (sym log) ∙ ap (λ (k : Layout). all_in_place (page_count k) empty (log_in k x)) (sym same) ∙ r.in_place in
-      false≢true (sym f.refused ∙ is-taken join (page_count l) before rest f.entry f.last r.last order places f.in_order)
+      let rising : all_rise 0 (before ++ f.entry ∷ rest) ≡ true =
+      ap (all_rise 0) (sym log) ∙ ap (λ (k : Layout). all_rise 0 (log_in k x)) (sym same) ∙ r.rising in
+      false≢true (sym f.refused ∙ is-taken join (page_count l) before rest f.entry f.last r.last order places rising f.in_order)
 
   -- no block is broken
   block-stands : (b : ℕ) → Recovers x T → IsBlockDamaged b x → ⊥

@@ -18,6 +18,7 @@ use Rattle.ids_model.specs.Recovered.{State, nothing, run}
 use Rattle.ids_model.specs.RecoveryLaws.{RunsJoin}
 use Rattle.fast_recovery.specs.Order.{open_in}
 use Rattle.fast_recovery.specs.InPlace.{all_in_place, is_taken}
+use Rattle.fast_recovery.specs.Rising.{all_rise, greatest_after, greatest_in}
 use Rattle.fast_recovery.specs.LogRead.{GoesOn, HasRead, IsRefused, IsFirstDamagedRecord, IsBrokenEnd}
 use Rattle.fast_recovery.specs.declared.past.Past.{Past}
 use Rattle.fast_recovery.proofs.Ordered.{goes-none, goes-both}
@@ -105,9 +106,9 @@ module _ (r : Region) (x : Image) where
       ap (λ (l : List Body). length l) (tail-is n some within held ends) ∙ length-held 1 (n - 1) (λ q from below. held q from (omega (arith, below, at))) in
       omega (arith, long, some)
 
-  pub read-all : (pages : ℕ) (first p : Past) → first.open_tx ≡ None → first.replay ≡ nothing → 1 ≤ p.next → p.next ≤ 1 + r.count → ReadUpTo pages r x first p → body_at r p.next x ≡ None
+  pub read-all : (pages : ℕ) (first p : Past) → first.open_tx ≡ None → first.last_tx ≡ 0 → first.replay ≡ nothing → 1 ≤ p.next → p.next ≤ 1 + r.count → ReadUpTo pages r x first p → body_at r p.next x ≡ None
       → ¬ IsBroken r p.next x → HasRead pages r x p
-  read-all pages first p shut from_nothing some within read ends whole =
+  read-all pages first p shut unnumbered from_nothing some within read ends whole =
       let log : tail_entries r 1 x ≡ entries_in (bodies_from r 1 (p.next - 1) x) = ap entries_in (tail-is p.next some within read.held ends) in
       let goes : GoesOn pages first (tail_entries r 1 x) p = subst (λ (l : List Entry). GoesOn pages first l p) (sym log) read.goes in
       record {
@@ -115,7 +116,8 @@ module _ (r : Region) (x : Image) where
           order = ap (λ o. open_in o (tail_entries r 1 x)) (sym shut) ∙ goes.order;
           places = subst (λ (s : State). all_in_place pages s.own (tail_entries r 1 x) ≡ true) from_nothing goes.places;
           replay = goes.replay ∙ ap (λ (s : State). run s (tail_entries r 1 x)) from_nothing;
-          greatest = goes.greatest;
+          rising = subst (λ (n : ℕ). all_rise n (tail_entries r 1 x) ≡ true) unnumbered goes.rising;
+          greatest = goes.greatest ∙ ap (λ (n : ℕ). greatest_after n (tail_entries r 1 x)) unnumbered;
         };
         held = read.held;
         ends = ends;
@@ -123,9 +125,9 @@ module _ (r : Region) (x : Image) where
       }
 
   -- a broken block that comes next is the one behind the tail
-  pub read-broken : (pages : ℕ) (first p : Past) → first.open_tx ≡ None → first.replay ≡ nothing → 1 ≤ p.next → p.next ≤ 1 + r.count → ReadUpTo pages r x first p → body_at r p.next x ≡ None
+  pub read-broken : (pages : ℕ) (first p : Past) → first.open_tx ≡ None → first.last_tx ≡ 0 → first.replay ≡ nothing → 1 ≤ p.next → p.next ≤ 1 + r.count → ReadUpTo pages r x first p → body_at r p.next x ≡ None
       → IsBroken r p.next x → IsBrokenEnd pages r x p.next
-  read-broken pages first p shut from_nothing some within read ends broken =
+  read-broken pages first p shut unnumbered from_nothing some within read ends broken =
       let log : tail_entries r 1 x ≡ entries_in (bodies_from r 1 (p.next - 1) x) = ap entries_in (tail-is p.next some within read.held ends) in
       let goes : GoesOn pages first (tail_entries r 1 x) p = subst (λ (l : List Entry). GoesOn pages first l p) (sym log) read.goes in
       record {
@@ -134,6 +136,7 @@ module _ (r : Region) (x : Image) where
         last = p.open_tx;
         in_order = ap (λ o. open_in o (tail_entries r 1 x)) (sym shut) ∙ goes.order;
         in_place = subst (λ (s : State). all_in_place pages s.own (tail_entries r 1 x) ≡ true) from_nothing goes.places;
+        rising = subst (λ (n : ℕ). all_rise n (tail_entries r 1 x) ≡ true) unnumbered goes.rising;
       }
 
   -- where each block counts, the one behind the last has the place of the first, does not count and is not broken
@@ -150,14 +153,15 @@ module _ (r : Region) (x : Image) where
       turn m e = ap (λ k. k % r.count) (let z : 1 - 1 ≡ 0 = omega arith in z) ∙ none r.count some ∙ ap (λ k. k % r.count) (sym e)
 
   -- the first record of the next block that is not taken is the first of the log
-  pub read-fault : RunsJoin → (pages : ℕ) (first p : Past) (body : Body) (pos : LogPos) → first.open_tx ≡ None → first.replay ≡ nothing → 1 ≤ p.next → p.next ≤ r.count
+  pub read-fault : RunsJoin → (pages : ℕ) (first p : Past) (body : Body) (pos : LogPos) → first.open_tx ≡ None → first.last_tx ≡ 0 → first.replay ≡ nothing → 1 ≤ p.next → p.next ≤ r.count
       → ReadUpTo pages r x first p → body_at r p.next x ≡ Some body → IsRefused pages p body.entries pos → IsFirstDamagedRecord pages r x pos
-  read-fault join pages first p body pos shut from_nothing some within read there why =
+  read-fault join pages first p body pos shut unnumbered from_nothing some within read there why =
       let rest = r.count - p.next in
       let before = bodies_from r 1 (p.next - 1) x in
       let log : List Entry = entries_in before ++ why.front in
       let all : r.count ≡ p.next - 1 + suc rest = omega (arith, some, within) in
       let goes : GoesOn pages first log why.last = goes-both pages join first p why.last (entries_in before) why.front read.goes why.goes_on in
+      let numbered : why.last.last_tx ≡ greatest_in log = goes.greatest ∙ ap (λ (n : ℕ). greatest_after n log) unnumbered in
       let made : why.last.replay ≡ run nothing log = goes.replay ∙ ap (λ (s : State). run s log) from_nothing in
       record {
         before = before;
@@ -173,5 +177,7 @@ module _ (r : Region) (x : Image) where
         last = why.last.open_tx;
         in_order = ap (λ o. open_in o log) (sym shut) ∙ goes.order;
         in_place = subst (λ (s : State). all_in_place pages s.own log ≡ true) from_nothing goes.places;
-        refused = subst (λ (s : State). is_taken pages why.last.open_tx s.own why.entry ≡ false) made why.refused;
+        rising = subst (λ (n : ℕ). all_rise n log ≡ true) unnumbered goes.rising;
+        refused = subst (λ (n : ℕ). is_taken pages n why.last.open_tx (run nothing log).own why.entry ≡ false) numbered
+            (subst (λ (s : State). is_taken pages why.last.last_tx why.last.open_tx s.own why.entry ≡ false) made why.refused);
       }

@@ -92,5 +92,6 @@ module _ (x : Image) where
     has = has;
     last = p.open_tx;
     in_order = after.order;
+    rising = after.rising;
     broken = subst (λ (s : State). IsBrokenRow s.own s.slots row) (ap (λ (s : State). run s (closing p.open_tx)) after.replay ∙ sym joins) broken;
   })

@@ -15,6 +15,7 @@ pub mod TablesFound
 pub mod TakingBack
 pub mod Placed
 pub mod PlaceTests
+pub mod Rises
 pub mod Paging
 pub mod Ordered
 pub mod BlocksRead

@@ -3,14 +3,15 @@ use Rattle.std.proofs.Common.{◌≡◌, ℕ, suc, ◌+◌, ◌<◌, ◌≤◌, 
 use Rattle.std.proofs.Math.Dec.{leb-zero}
 use Rattle.std.specs.Prelude.{option_and_then, nat_le}
 use Rattle.log_records.specs.Entries.{Entry, Begin, Commit, Rollback, HInsert, HDelete, HUpdate, Ckpoint}
-use Rattle.log_records.specs.Spelling.{tx_of}
 use Rattle.ids_model.specs.Recovered.{SlotChange, State, run, AreOf, of_tx, note, noted, others, kept, inserted, deleted, updated}
 use Rattle.ids_model.specs.RecoveryLaws.{RunsJoin}
 use Rattle.fast_recovery.specs.Order.{open_by, open_in}
 use Rattle.fast_recovery.specs.InPlace.{all_in_place}
-use Rattle.fast_recovery.specs.LogRead.{AreUpTo, AreAlone, GoesOn}
+use Rattle.fast_recovery.specs.Rising.{all_rise, greatest_after}
+use Rattle.fast_recovery.specs.LogRead.{AreAlone, GoesOn}
 use Rattle.fast_recovery.specs.declared.past.Past.{Past}
 use Rattle.fast_recovery.proofs.Placed.{places-append}
+use Rattle.fast_recovery.proofs.Rises.{rises-append, greatest-append}
 
 -- records, and others behind them
 pub open_in-append : (o : Option ℕ) (xs ys : List Entry) → open_in o (xs ++ ys) ≡ option_and_then (λ p. open_in p ys) (open_in o xs)
@@ -29,18 +30,10 @@ open_in-then o p xs ys is = open_in-append o xs ys ∙ ap (λ m. option_and_then
 pub open_in-none : (o p : Option ℕ) (xs : List Entry) (e : Entry) (rest : List Entry) → open_in o xs ≡ Some p → open_by p e ≡ None → open_in o (xs ++ e ∷ rest) ≡ None
 open_in-none o p xs e rest is none = open_in-then o p xs (e ∷ rest) is ∙ ap (λ m. option_and_then (λ q. open_in q rest) m) none
 
-pub up_to-wider : (m n : ℕ) (es : List Entry) → m ≤ n → AreUpTo m es → AreUpTo n es
-up_to-wider m n [] le each = tt
-up_to-wider m n (e ∷ es) le each = (let d : tx_of e ≤ n = omega (arith, le, each.0) in d, up_to-wider m n es le each.1)
-
-pub up_to-append : (n : ℕ) (xs ys : List Entry) → AreUpTo n xs → AreUpTo n ys → AreUpTo n (xs ++ ys)
-up_to-append n [] ys each others = others
-up_to-append n (x ∷ xs) ys each others = (each.0, up_to-append n xs ys each.1 others)
-
 module _ (pages : ℕ) where
   -- by no records a past stays
   pub goes-none : (p : Past) → GoesOn pages p [] p
-  goes-none p = record { order = refl; places = refl; replay = refl; greatest = tt; rises = omega arith }
+  goes-none p = record { order = refl; places = refl; replay = refl; rising = refl; greatest = refl }
 
   -- by records and others it goes on as by both
   pub goes-both : RunsJoin → (p q r : Past) (xs ys : List Entry) → GoesOn pages p xs q → GoesOn pages q ys r → GoesOn pages p (xs ++ ys) r
@@ -48,8 +41,8 @@ module _ (pages : ℕ) where
     order = open_in-then p.open_tx q.open_tx xs ys one.order ∙ two.order;
     places = places-append join pages p.replay.own xs ys one.places (subst (λ (s : State). all_in_place pages s.own ys ≡ true) one.replay two.places);
     replay = two.replay ∙ ap (λ (s : State). run s ys) one.replay ∙ sym (join p.replay xs ys);
-    greatest = up_to-append r.last_tx xs ys (up_to-wider q.last_tx r.last_tx xs two.rises one.greatest) two.greatest;
-    rises = omega (arith, one.rises, two.rises);
+    rising = rises-append p.last_tx xs ys one.rising (subst (λ (n : ℕ). all_rise n ys ≡ true) one.greatest two.rising);
+    greatest = two.greatest ∙ ap (λ (n : ℕ). greatest_after n ys) one.greatest ∙ sym (greatest-append p.last_tx xs ys);
   }
 
 -- an element of a mapped list stands between the front and the rest

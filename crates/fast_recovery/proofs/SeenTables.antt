@@ -20,11 +20,13 @@ use Rattle.ids_model.specs.RecoveryLaws.{RunsJoin, RollbacksAreSeen}
 use Rattle.fast_recovery.specs.Images.{HasEmptyBase, log_region, log_in, page_count}
 use Rattle.fast_recovery.specs.Order.{open_in, closing}
 use Rattle.fast_recovery.specs.InPlace.{all_in_place}
+use Rattle.fast_recovery.specs.Rising.{all_rise, greatest_in}
 use Rattle.fast_recovery.specs.LogRead.{AreAlone}
 use Rattle.fast_recovery.specs.Opening.{KeepsTables}
 use Rattle.fast_recovery.proofs.Ordered.{alone-run}
 use Rattle.fast_recovery.proofs.OrderFronts.{open_in-front, open_in-closed}
 use Rattle.fast_recovery.proofs.Placed.{places-append, places-closing}
+use Rattle.fast_recovery.proofs.Rises.{rises-append, rises-closing}
 use Rattle.fast_recovery.proofs.EmptyBase.{Laws, same-base}
 
 module _ (join : RunsJoin) (rolls : RollbacksAreSeen) where
@@ -65,6 +67,7 @@ module _ (join : RunsJoin) (rolls : RollbacksAreSeen) where
       let base = subst (λ m. HasEmptyBase m x) same was.base in
       let tables : IsRecovered (log_in l x) T = subst (λ m. IsRecovered (log_in m x) T) same was.tables in
       let placed : all_in_place (page_count l) empty (log_in l x) ≡ true = subst (λ m. all_in_place (page_count m) empty (log_in m x) ≡ true) same was.in_place in
+      let rising : all_rise 0 (log_in l x) ≡ true = subst (λ m. all_rise 0 (log_in m x) ≡ true) same was.rising in
       let tail : log_in l y ≡ log_in l x ++ front = (λ i. tail_entries (sym region i) (sym first i) y) ∙ log.tail in
       let closed : open_in None ((log_in l x ++ front) ++ rest) ≡ Some None =
       ap (open_in None) (append_assoc (log_in l x) front rest ∙ ap (λ es. log_in l x ++ es) (sym parts)) ∙ open_in-closed o (log_in l x) order in
@@ -76,6 +79,7 @@ module _ (join : RunsJoin) (rolls : RollbacksAreSeen) where
         in_order = ap (open_in None) tail ∙ still.1;
         in_place = ap (all_in_place (page_count l) empty) tail
             ∙ places-append join (page_count l) empty (log_in l x) front placed (places-closing join (page_count l) (own_all empty (owns (log_in l x))) o front rest parts);
+        rising = ap (all_rise 0) tail ∙ rises-append 0 (log_in l x) front rising (rises-closing (greatest_in (log_in l x)) o front rest parts);
         whole = subst (λ (at : Region × ℕ). EndsWhole at.0 at.1 y) (λ i. (region i, first i)) log.whole;
         tables = subst (λ t. IsRecovered t T) (sym tail) (front-recovers (log_in l x) front rest o T order parts tables);
       }

@@ -15,6 +15,7 @@ use Rattle.ids_model.specs.Tables.{Tables}
 use Rattle.ids_model.specs.Logged.{IsRecovered}
 use Rattle.fast_recovery.specs.Order.{open_in}
 use Rattle.fast_recovery.specs.InPlace.{all_in_place}
+use Rattle.fast_recovery.specs.Rising.{all_rise}
 
 -- the two logs of a layout
 abbrev pub phys_region : Layout → Region
@@ -46,7 +47,7 @@ pub record HasEmptyBase (l : Layout) (x : Image) : Type 0 where
   pub physical : (k : ℕ) → k < l.phys → block (phys_region l) k x ≡ None
   pub unowned : (chunk : ℕ) → 1 ≤ chunk → chunk ≤ l.chunks → IsZero x chunk (2048 * l.data_pages)
 
--- the tables that are recovered from an image are those that its log stands for, whose records are in order and in their places, and whose rows are well formed; the
+-- the tables that are recovered from an image are those that its log stands for, whose records are in order and in their places and rise, and whose rows are well formed; the
 -- block behind the log's tail is not broken
 pub record Recovers (x : Image) (T : Tables) : Type 0 where
   pub layout : Layout
@@ -54,5 +55,6 @@ pub record Recovers (x : Image) (T : Tables) : Type 0 where
   pub last : Option ℕ
   pub in_order : open_in None (log_in layout x) ≡ Some last
   pub in_place : all_in_place (page_count layout) empty (log_in layout x) ≡ true
+  pub rising : all_rise 0 (log_in layout x) ≡ true
   pub whole : EndsWhole (log_region layout) 1 x
   pub tables : IsRecovered (log_in layout x) T

@@ -5,6 +5,7 @@ use Rattle.log_records.specs.Entries.{Entry, Begin, Commit, Rollback, HInsert, H
 use Rattle.ids_model.specs.Slots.{Own, own_at, own_all}
 use Rattle.ids_model.specs.Recovered.{owns}
 use Rattle.fast_recovery.specs.Order.{open_by}
+use Rattle.fast_recovery.specs.Rising.{rises}
 
 -- the page of a row id is one of the pages 1 to `pages`, and its slot is there in a page whose rows have so many bytes
 abbrev pub is_there : ℕ → ℕ → ℕ → Bool
@@ -47,6 +48,6 @@ abbrev pub all_in_place : ℕ → Own → List Entry → Bool
 all_in_place pages own [] = true
 all_in_place pages own (e ∷ es) = in_place pages own e && all_in_place pages (own_all own (owns (e ∷ []))) es
 
--- a record is taken where it is in order and in its place
-abbrev pub is_taken : ℕ → Option ℕ → Own → Entry → Bool
-is_taken pages open_before own e = is_some (open_by open_before e) && in_place pages own e
+-- a record is taken where it is in order and in its place, and rises
+abbrev pub is_taken : ℕ → ℕ → Option ℕ → Own → Entry → Bool
+is_taken pages last open_before own e = (is_some (open_by open_before e) && in_place pages own e) && rises last e

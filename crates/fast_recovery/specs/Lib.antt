@@ -5,6 +5,7 @@ pub mod Keys
 pub mod Images
 pub mod Order
 pub mod InPlace
+pub mod Rising
 pub mod Paged
 pub mod PagedStates
 pub mod KeepingPages

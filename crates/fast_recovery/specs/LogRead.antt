@@ -1,6 +1,5 @@
 -- What is read of an image at opening, and why it is not opened.
 use Rattle.std.specs.Prelude.{◌≡◌, ◌≢◌, ◌<◌, ◌≤◌, ◌⊎◌, ℕ, ◌+◌, ◌*◌, true, false, List, [], ◌∷◌, ◌++◌, length, Option, Some, None}
-use Rattle.std.specs.List.{AllByRecursion}
 use Rattle.std.specs.FinMap.{empty}
 use Rattle.ids_base.specs.declared.position.LogPos.{LogPos}
 use Rattle.ids_base.specs.declared.status.Place.{Place}
@@ -12,7 +11,6 @@ use Rattle.chunk_map.specs.declared.checkpoint.CheckpointPage.{CheckpointPage}
 use Rattle.chunk_map.specs.Checkpoints.{IsNewest, IsFirstDamaged, page_of}
 use Rattle.chunk_map.specs.Formatted.{HasLayout, IsFormatted, IsIdentityDamaged}
 use Rattle.log_records.specs.Entries.{Entry}
-use Rattle.log_records.specs.Spelling.{tx_of}
 use Rattle.log_records.specs.Bodies.{Body}
 use Rattle.log_files.specs.Log.{body_at, tail_from, IsBroken, EndsWhole}
 use Rattle.log_buffer.specs.Kept.{entries_in, tail_entries}
@@ -21,29 +19,27 @@ use Rattle.ids_model.specs.Recovered.{SlotChange, nothing, run, owns, AreOf}
 use Rattle.fast_recovery.specs.Images.{first_checkpoint, log_region, log_in, page_count}
 use Rattle.fast_recovery.specs.Order.{open_in}
 use Rattle.fast_recovery.specs.InPlace.{all_in_place, is_taken}
+use Rattle.fast_recovery.specs.Rising.{all_rise, greatest_after, greatest_in}
 use Rattle.fast_recovery.specs.RowDamaged.{HasRowDamaged}
 use Rattle.fast_recovery.specs.declared.past.Past.{Past}
 use Rattle.fast_recovery.specs.declared.fault.OpenFault.{OpenFault}
 use Rattle.fast_recovery.specs.declared.fault.OpenFault.TheVariants.{Disk, Memory, NotFormatted, Damaged, LogFull}
 
--- no record is of a transaction with a greater number
-abbrev pub AreUpTo : ℕ → List Entry → Type 0
-AreUpTo last log = AllByRecursion (λ (e : Entry). tx_of e ≤ last) log
-
--- the records are in order and in their places among so many pages, and make this state
+-- the records are in order and in their places among so many pages, and rise, and make this state
 pub record IsAfter (pages : ℕ) (log : List Entry) (p : Past) : Type 0 where
   pub order : open_in None log ≡ Some p.open_tx
   pub places : all_in_place pages empty log ≡ true
   pub replay : p.replay ≡ run nothing log
-  pub greatest : AreUpTo p.last_tx log
+  pub rising : all_rise 0 log ≡ true
+  pub greatest : p.last_tx ≡ greatest_in log
 
 -- the first past goes on by these records to the second, and each is taken
 pub record GoesOn (pages : ℕ) (p : Past) (es : List Entry) (q : Past) : Type 0 where
   pub order : open_in p.open_tx es ≡ Some q.open_tx
   pub places : all_in_place pages p.replay.own es ≡ true
   pub replay : q.replay ≡ run p.replay es
-  pub greatest : AreUpTo q.last_tx es
-  pub rises : p.last_tx ≤ q.last_tx
+  pub rising : all_rise p.last_tx es ≡ true
+  pub greatest : q.last_tx ≡ greatest_after p.last_tx es
 
 -- changes stand of the open transaction alone
 abbrev pub AreAlone : Option ℕ → List SlotChange → Type 0
@@ -67,7 +63,7 @@ pub record IsRefused (pages : ℕ) (p : Past) (es : List Entry) (pos : LogPos) :
   pub index : length front ≡ pos.index
   pub last : Past
   pub goes_on : GoesOn pages p front last
-  pub refused : is_taken pages last.open_tx last.replay.own entry ≡ false
+  pub refused : is_taken pages last.last_tx last.open_tx last.replay.own entry ≡ false
 
 -- why the records of the next block are not taken
 abbrev pub RecordsFault : ℕ → Past → List Entry → OpenFault → Type 0
@@ -97,20 +93,22 @@ pub record IsFirstDamagedRecord (pages : ℕ) (r : Region) (x : Image) (pos : Lo
   pub behind : List Entry
   pub records : body.entries ≡ front ++ entry ∷ behind
   pub index : length front ≡ pos.index
-  -- all records before it are in order and in their places
+  -- all records before it are in order and in their places, and rise
   pub last : Option ℕ
   pub in_order : open_in None (entries_in before ++ front) ≡ Some last
   pub in_place : all_in_place pages empty (entries_in before ++ front) ≡ true
+  pub rising : all_rise 0 (entries_in before ++ front) ≡ true
   -- and it is not taken
-  pub refused : is_taken pages last (own_all empty (owns (entries_in before ++ front))) entry ≡ false
+  pub refused : is_taken pages (greatest_in (entries_in before ++ front)) last (own_all empty (owns (entries_in before ++ front))) entry ≡ false
 
--- the block behind the tail is broken, and has this number; the records before it are in order and in their places
+-- the block behind the tail is broken, and has this number; the records before it are in order and in their places, and rise
 pub record IsBrokenEnd (pages : ℕ) (r : Region) (x : Image) (b : ℕ) : Type 0 where
   pub behind : b ≡ 1 + length (tail_from r 1 x)
   pub broken : IsBroken r b x
   pub last : Option ℕ
   pub in_order : open_in None (tail_entries r 1 x) ≡ Some last
   pub in_place : all_in_place pages empty (tail_entries r 1 x) ≡ true
+  pub rising : all_rise 0 (tail_entries r 1 x) ≡ true
 
 -- why the log of a region is not read
 abbrev pub LogFault : ℕ → Region → Image → OpenFault → Type 0
@@ -130,7 +128,7 @@ LogFault pages r x LogFull = ⊥
 abbrev pub IsOtherCheckpoint : ℕ → Image → Type 0
 IsOtherCheckpoint c x = IsFirstDamaged c x ⊎ ((p : CheckpointPage) × IsNewest p x × (p ≢ first_checkpoint) × (c ≡ page_of p.number))
 
--- the record at a place is the first of the image's log that is out of order or not in its place
+-- the record at a place is the first of the image's log that is out of order or not in its place, or does not rise
 abbrev pub IsRecordDamaged : LogPos → Image → Type 0
 IsRecordDamaged pos x = (l : Layout) × HasLayout l x × IsFirstDamagedRecord (page_count l) (log_region l) x pos
 
@@ -155,6 +153,7 @@ pub record IsLogFull (x : Image) : Type 0 where
   pub tx : ℕ
   pub standing : open_in None (log_in layout x) ≡ Some (Some tx)
   pub in_place : all_in_place (page_count layout) empty (log_in layout x) ≡ true
+  pub rising : all_rise 0 (log_in layout x) ≡ true
   pub taken : length (tail_from (log_region layout) 1 x) ≡ layout.logs * layout.log_size
 
 -- why an image is not opened

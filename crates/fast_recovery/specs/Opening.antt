@@ -17,7 +17,8 @@ use Rattle.fast_recovery.specs.Found.{IsKept}
 use Rattle.fast_recovery.specs.Images.{Recovers, first_checkpoint, log_region, log_in, page_count}
 use Rattle.fast_recovery.specs.Order.{open_in, closing}
 use Rattle.fast_recovery.specs.InPlace.{all_in_place}
-use Rattle.fast_recovery.specs.LogRead.{AreUpTo, HasRead}
+use Rattle.fast_recovery.specs.Rising.{all_rise, greatest_in}
+use Rattle.fast_recovery.specs.LogRead.{HasRead}
 use Rattle.fast_recovery.specs.declared.past.Past.{Past}
 use Rattle.fast_recovery.specs.declared.opening.Opened.{Opened}
 use Rattle.fast_recovery.specs.declared.fault.OpenFault.{OpenFault}
@@ -44,8 +45,9 @@ pub record HasOpened (x : Image) (o : Opened) : Type 0 where
   pub last : Option ℕ
   pub in_order : open_in None (log_in o.layout x) ≡ Some last
   pub in_place : all_in_place (page_count o.layout) empty (log_in o.layout x) ≡ true
+  pub rising : all_rise 0 (log_in o.layout x) ≡ true
   pub replay : o.replay ≡ run nothing (log_in o.layout x ++ closing last)
-  pub greatest : AreUpTo o.last_tx (log_in o.layout x)
+  pub greatest : o.last_tx ≡ greatest_in (log_in o.layout x)
 
 -- the files of the layout from block 1 on, each place of which is retained or may be taken; a buffer without records; nothing stands; and the tables that pages and rows stand for
 pub record IsOpened (o : Opened) : Type 0 where

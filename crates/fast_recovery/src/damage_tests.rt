@@ -243,3 +243,18 @@ fn a_broken_block_is_named_and_loses_nothing(rt: HostRuntime) -> Result<(), Fail
     assert_eq!(rt; opened.files.next(), 3);
     Ok(())
 }
+
+// A transaction that has ended has number 3.
+#[test]
+fn a_number_is_not_begun_again(rt: HostRuntime) -> Result<(), Fail> {
+    let alloc = rt.alloc();
+    for (tx, place) in [(3, at(2, 0)), (2, at(2, 0)), (4, None)] {
+        let first = [
+            Record::Begin { tx: 3, session: 1 },
+            Record::Commit { tx: 3 },
+        ];
+        let second = [Record::Begin { tx, session: 1 }, Record::Commit { tx }];
+        assert_eq!(rt; damage(&rt, alloc, &first, &second)?, place, "{tx}");
+    }
+    Ok(())
+}

@@ -2,7 +2,8 @@
 //!
 //! Read in this order: the parts, which are the owners of pages, the rows in slots and the standing changes; the replay of a
 //! log, which has all three; the tables that pages and rows stand for, which are found by the rows of the catalogue first and
-//! the other rows after them; and opening, which replays the log of a disk, where each record is in order and in its place.
+//! the other rows after them; and opening, which replays the log of a disk, where each record is in order and in its place,
+//! and transactions are numbered rising.
 #![tactic(auto)]
 
 mod catalogue;

@@ -66,7 +66,7 @@ pub struct Opened {
     pub replay: Replay,
     /// The tables that these stand for.
     pub found: Found,
-    /// No transaction of the log has a greater number.
+    /// The greatest number of a transaction of the log, or 0.
     pub last_tx: TxNo,
 }
 
@@ -74,8 +74,9 @@ pub struct Opened {
 ///
 /// Errors, in the order in which they are looked for: `NotFormatted` and `Damaged` as the identity page and the checkpoint pages
 /// say; `Damaged` also where the newest checkpoint is not the one that formatting writes, and at the first record of the log that
-/// is out of order or not in its place: a change names a page and a slot that are there, in a page of its table and its row's
-/// length, and an insert may name a page that has no owner yet; and at a row that the log leaves and that breaks a rule of well
+/// is out of order or not in its place, or does not rise: a change names a page and a slot that are there, in a page of its table
+/// and its row's length, and an insert may name a page that has no owner yet; a BEGIN has a greater number than each record
+/// before it; and at a row that the log leaves and that breaks a rule of well
 /// formed rows. `LogFull` where a transaction is open and the log has no block left; `Disk` only where a call of the disk failed;
 /// `Memory` where memory was wanting. Where the disk is refused, nothing was written. A stop at any moment leaves the tables as
 /// they were; where something was pending as the call began, at any moment behind that, or, as where the first sync fails, the

@@ -6,6 +6,7 @@ ghost use Rattle.log_records.specs.Spelling.{IsEntry};
 ghost use Rattle.ids_model.specs.Recovered.{nothing};
 ghost use Rattle.fast_recovery.specs.Order.{open_by, starts, stays, ends};
 ghost use Rattle.fast_recovery.specs.InPlace.{is_taken};
+ghost use Rattle.fast_recovery.specs.Rising.{rises};
 ghost use Rattle.fast_recovery.specs.PagedStates.{IsPagedState};
 ghost use Rattle.fast_recovery.specs.LogRead.{GoesOn, RecordsFault};
 
@@ -35,10 +36,11 @@ pub(crate) struct Past {
 }
 
 impl Past {
-    /// Before any record, the next block is block 1. Takes no memory.
+    /// Before any record, the greatest number is 0, and the next block is block 1. Takes no memory.
     pub(crate) fn new(alloc: Global) -> Past
         ensures replay { result.replay ≡ nothing }
         ensures none { result.open_tx ≡ None }
+        ensures last_tx { result.last_tx ≡ 0 }
         ensures next { result.next ≡ 1 }
     {
         Past {
@@ -75,16 +77,16 @@ impl Past {
         Ok(())
     }
 
-    // Goes on by a record; `false` exactly where it is out of order, or not in its place.
+    // Goes on by a record; `false` exactly where it is out of order or not in its place, or does not rise.
     fn note(&mut self, entry: &Record, pages: u32) -> Result<bool, Memory>
         ensures noted { IfOk result (λ is_noted. is_noted ≡ true → GoesOn pages self.old (entry_of entry.now ∷ []) self.new) }
-        ensures refused { IfOk result (λ is_noted. is_noted ≡ false → is_taken pages self.old.open_tx self.old.replay.own (entry_of entry.now) ≡ false) }
+        ensures refused { IfOk result (λ is_noted. is_noted ≡ false → is_taken pages self.old.last_tx self.old.open_tx self.old.replay.own (entry_of entry.now) ≡ false) }
         ensures next { self.new.next ≡ self.old.next }
     {
         let Some(open_tx) = open_after(self.open_tx, entry) else {
             return Ok(false);
         };
-        if !is_in_place(&self.replay, pages, entry) {
+        if !is_in_place(&self.replay, pages, entry) || !rises(self.last_tx, entry) {
             return Ok(false);
         }
         self.replay.note(entry)?;
@@ -99,6 +101,21 @@ fn are_in_range(body: &BlockBody)
     ensures { AllByRecursion IsEntry body.now.entries }
 {
     let _used = body.used();
+}
+
+// Whether a record rises behind records whose greatest number is this: a BEGIN has a greater one.
+fn rises(last: TxNo, entry: &Record) -> bool
+    ensures { result ≡ rises last (entry_of entry.now) }
+{
+    match entry {
+        Record::Begin { tx, .. } => last < *tx,
+        Record::Commit { .. }
+        | Record::Rollback { .. }
+        | Record::HInsert { .. }
+        | Record::HDelete { .. }
+        | Record::HUpdate { .. }
+        | Record::Ckpoint { .. } => true,
+    }
 }
 
 // Which transaction is open after a record, where this one was before; `None` where the record is out of order.

@@ -14,7 +14,8 @@ use Rattle.fast_recovery.specs.Order.{open_in, closing}
 use Rattle.fast_recovery.specs.InPlace.{all_in_place}
 use Rattle.fast_recovery.specs.Paged.{IsPaged}
 use Rattle.fast_recovery.specs.PagedStates.{IsPagedState}
-use Rattle.fast_recovery.specs.LogRead.{AreUpTo, OpenCause}
+use Rattle.fast_recovery.specs.Rising.{all_rise, greatest_in}
+use Rattle.fast_recovery.specs.LogRead.{OpenCause}
 use Rattle.fast_recovery.specs.RowDamaged.{RowsFault}
 use Rattle.fast_recovery.specs.Opening.{files_from, KeepsTables, WasFormatted, IsWant, ClosingFault, IsRefusal}
 use Rattle.fast_recovery.proofs.BlocksRead.{length-held}
@@ -128,6 +129,7 @@ returns-in_err-close_log-clause-fault g c =
       tx = full.0;
       standing = found.read.after.order ∙ ap (λ (o : Option ℕ). Some o) full.1;
       in_place = found.read.after.places;
+      rising = found.read.after.rising;
       taken = length-held (log_region l) base 1 (l.logs * l.log_size) (λ q from below. found.read.held q from (omega (arith, below, next)));
     }) c.in_err-close_log.ensures.fault))
 
@@ -141,10 +143,10 @@ returns-clause-opened g c = λ tells.
       last = p.open_tx;
       in_order = ap (λ (k : Layout). open_in None (log_in k base)) close.layout ∙ after.order;
       in_place = subst (λ (k : Layout). all_in_place (page_count k) empty (log_in k base) ≡ true) (sym close.layout) after.places;
+      rising = subst (λ (k : Layout). all_rise 0 (log_in k base) ≡ true) (sym close.layout) after.rising;
       replay = close.replay ∙ c.in_ok-note_end.ensures ∙ ap (λ (s : State). run s (closing p.open_tx)) after.replay ∙ sym (c.runs_join.ensures nothing (log_in l base) (closing p.open_tx))
           ∙ ap (λ (k : Layout). run nothing (log_in k base ++ closing p.open_tx)) (sym close.layout);
-      greatest = subst (λ (n : ℕ). AreUpTo n (log_in c.close_log.new.opened.layout base)) (sym close.last_tx)
-          (subst (λ (k : Layout). AreUpTo p.last_tx (log_in k base)) (sym close.layout) after.greatest);
+      greatest = close.last_tx ∙ after.greatest ∙ ap (λ (k : Layout). greatest_in (log_in k base)) (sym close.layout);
     }
 
 pub returns-clause-paged : goal.returns-clause-paged

@@ -18,13 +18,13 @@ pub returns-in-Absent-clause-read : goal.returns-in-Absent-clause-read
 returns-in-Absent-clause-read g c = λ tells.
     let r = c.args.files.now.region in let x = g.D.Disk.image c.args.disk.now in let inv = c.loop-past.invariant in let p = c.loop-past.past in
     let found : IsReadAs r p.next x reads.Absent = subst (λ (f : BlockRead). IsReadAs r p.next x f) c.in-Absent.is (subst (λ (y : Image). IsReadAs r p.next y c.in_ok-found.found) inv.same (c.in_ok-found.ensures.read tells)) in
-    read-all r x c.args.pages c.new-past.result p c.new-past.ensures.none c.new-past.ensures.replay inv.from inv.to (inv.read tells) found.0 found.1
+    read-all r x c.args.pages c.new-past.result p c.new-past.ensures.none c.new-past.ensures.last_tx c.new-past.ensures.replay inv.from inv.to (inv.read tells) found.0 found.1
 
 pub returns-in-Broken-clause-fault : goal.returns-in-Broken-clause-fault
 returns-in-Broken-clause-fault g c = λ tells.
     let r = c.args.files.now.region in let x = g.D.Disk.image c.args.disk.now in let inv = c.loop-past.invariant in let p = c.loop-past.past in
     let found : IsReadAs r p.next x reads.Broken = subst (λ (f : BlockRead). IsReadAs r p.next x f) c.in-Broken.is (subst (λ (y : Image). IsReadAs r p.next y c.in_ok-found.found) inv.same (c.in_ok-found.ensures.read tells)) in
-    read-broken r x c.args.pages c.new-past.result p c.new-past.ensures.none c.new-past.ensures.replay inv.from inv.to (inv.read tells) found.0 found.1
+    read-broken r x c.args.pages c.new-past.result p c.new-past.ensures.none c.new-past.ensures.last_tx c.new-past.ensures.replay inv.from inv.to (inv.read tells) found.0 found.1
 
 pub loop-past-preserved : goal.loop-past-preserved
 loop-past-preserved g c =
@@ -54,7 +54,7 @@ returns-in_err-note_body-clause-fault g c =
     let there : body_at r p.next x ≡ Some c.in-Body.body = subst (λ (f : BlockRead). IsReadAs r p.next x f) c.in-Body.is (subst (λ (y : Image). IsReadAs r p.next y c.in_ok-found.found) inv.same (c.in_ok-found.ensures.read tells)) in
     let below : p.next ≤ r.count = omega (arith, c.loop-past-test.true, c.from-last.ensures, count) in
     subst (λ f. LogFault c.args.pages r x f) (sym same) (records-cause c.args.pages r x p c.in-Body.body.entries c.in_err-note_body.field-0.0
-    (λ pos. read-fault r x c.runs_join.ensures c.args.pages c.new-past.result p c.in-Body.body pos c.new-past.ensures.none c.new-past.ensures.replay inv.from below (inv.read tells) there)
+    (λ pos. read-fault r x c.runs_join.ensures c.args.pages c.new-past.result p c.in-Body.body pos c.new-past.ensures.none c.new-past.ensures.last_tx c.new-past.ensures.replay inv.from below (inv.read tells) there)
     c.in_err-note_body.ensures.fault))
 
 pub loop-past-init : goal.loop-past-init
@@ -79,4 +79,4 @@ returns-clause-read g c = λ tells.
     let count : (c.region.result).count ≡ r.count = ap (λ (q : Region). q.count) c.region.ensures.region in
     let all : p.next ≡ 1 + r.count = omega (arith, inv.to, c.loop-past-test.false, c.from-last.ensures, count) in
     let ends = ends-full r x p.next (omega (arith, c.region.ensures.ring.some)) all (inv.read tells).held in
-    read-all r x c.args.pages c.new-past.result p c.new-past.ensures.none c.new-past.ensures.replay inv.from inv.to (inv.read tells) ends.0 ends.1
+    read-all r x c.args.pages c.new-past.result p c.new-past.ensures.none c.new-past.ensures.last_tx c.new-past.ensures.replay inv.from inv.to (inv.read tells) ends.0 ends.1
