@@ -7,13 +7,13 @@ ghost use Rattle.log_records.specs.Bodies.{Body, body_of};
 ghost use Rattle.log_files.specs.Log.{IsReadAs, body_at, bodies_from, ring_place};
 ghost use Rattle.log_files.specs.Files.{IsRing, IsReady, IsRead, HasFiles, AreNumbered, Count, Grows, Appends, Clears, KeepsRetained, retained, taken, freed, all_free, next_free};
 
+use crate::read::{BlockRead, read_as};
 use gate_blocks::laws::{changes, elsewhere};
 use gate_blocks::{Region, clear_some, open_gates, read_open, write_bodies};
 use ids_outside::{Disk, DiskFault, laws};
 use log_records::block_body::BlockBody;
 use log_records::body_bytes::body_to_bytes;
 use log_records::laws::bodies_are_read;
-use crate::read::{BlockRead, read_as};
 use std::marker::{Brand, Model};
 
 /// How many bodies are written before their gates are opened.
@@ -126,11 +126,7 @@ impl LogFiles {
     /// What stands at the place of a block: its body; or that it is broken, exactly where its gate is open, it has the number and
     /// does not decode; or nothing, where its place is closed or has another number, and for number 0. One block is read. Takes no
     /// memory.
-    pub fn read_from<D: Disk>(
-        &self,
-        disk: &mut D,
-        block: u64,
-    ) -> Result<BlockRead, DiskFault>
+    pub fn read_from<D: Disk>(&self, disk: &mut D, block: u64) -> Result<BlockRead, DiskFault>
         requires { self.now.region.first + self.now.region.count ≤ D.size disk.old self.now.region.chunk }
 
         ensures read { IfOk result (λ found. D.tells → IsReadAs self.now.region block (D.image disk.old) found) }
