@@ -1,18 +1,26 @@
 -- What closing those gates leaves that are open.
-use Rattle.std.proofs.Common.{◌≡◌, ◌≢◌, ◌⊎◌, inl, inr, ℕ, ◌+◌, ◌<◌, ◌≤◌, List, [], ◌∷◌, get_or, Some, None, sym, ◌∙◌, ap, subst, arith}
-use Rattle.std.proofs.lemmas.Bool.{cases_eq}
+use Rattle.std.proofs.Common.{◌≡◌, ◌≢◌, ◌⊎◌, inl, inr, ℕ, ◌+◌, ◌<◌, ◌≤◌, List, [], ◌∷◌, get_or, Some, None, cond, sym, ◌∙◌, ap, subst, arith, eq-eqb}
+use Rattle.std.proofs.lemmas.Bool.{cases_eq, ne_eqb}
 use Rattle.ids_outside.specs.Images.{Image, SameBut, Written}
 use Rattle.gate_blocks.proofs.Images.{both, wider, bytes_of-one}
 use Rattle.gate_blocks.proofs.OneBlock.{block-open, block-closed, closed-gate, block-same, body-alone}
-use Rattle.gate_blocks.specs.Gates.{place, gate, body, block, Within, GatePlaces, Closing, OpenGate, OpenGates}
+use Rattle.gate_blocks.specs.Gates.{place, gate, shut, body, block, Within, GatePlaces, Closing, OpenGate, OpenGates}
 use Rattle.gate_blocks.specs.declared.region.Region.{Region}
+
+-- what closing makes of a gate that is open, and of one that is not
+pub shut_open : (b : ℕ) → b ≡ 165 → shut b ≡ 0
+shut_open b is = ap (λ v. cond v 0 b) (eq-eqb b 165 is)
+
+pub shut_other : (b : ℕ) → b ≢ 165 → shut b ≡ b
+shut_other b is_not = ap (λ v. cond v 0 b) (ne_eqb b 165 is_not)
 
 module _ (r : Region) where
   -- a gate that was written over
+  pub wrote_zero : (k : ℕ) (x y : Image) → Written r.chunk (place r k + 2047) (0 ∷ []) x y → gate r k y ≡ 0
+  wrote_zero k x y written = ap (λ (l : List ℕ). get_or l 0 0) (sym (bytes_of-one y r.chunk (place r k + 2047)) ∙ written.there)
+
   pub wrote_gate : (k : ℕ) (x y : Image) → Written r.chunk (place r k + 2047) (0 ∷ []) x y → gate r k y ≢ 165
-  wrote_gate k x y written is =
-      let zero_there : gate r k y ≡ 0 = ap (λ (l : List ℕ). get_or l 0 0) (sym (bytes_of-one y r.chunk (place r k + 2047)) ∙ written.there) in
-      omega (arith, zero_there, is)
+  wrote_gate k x y written is = omega (arith, wrote_zero k x y written, is)
 
   -- a gate that is not among these
   pub gate-beside : (at n k : ℕ) (x y z : Image) → ¬ Within at n k → SameBut (OpenGates r at n x) y z → gate r k z ≡ gate r k y
@@ -57,6 +65,16 @@ module _ (r : Region) where
           inr (block-open r k z open_z ∙ ap (λ (b : List ℕ). Some b) (body-under at n k x y z same) ∙ sym (block-open r k y open_y))
       each k inside (inr shut_x) (inl open_z) =
           inr (block-same r k y z (gate-closed at n k x y z shut_x same) (body-under at n k x y z same))
+
+  -- one gate more is zero where it was open
+  pub next_zeroed : (at i : ℕ) (x e y : Image) → ((k : ℕ) → k < i → gate r (at + k) e ≡ shut (gate r (at + k) x)) → SameBut (OpenGate r (at + i) e) e y
+      → gate r (at + i) y ≡ shut (gate r (at + i) e) → gate r (at + i) e ≡ gate r (at + i) x → (k : ℕ) → k < i + 1 → gate r (at + k) y ≡ shut (gate r (at + k) x)
+  next_zeroed at i x e y so_far same here was k below = elim (cases_eq k i) [
+    | inl is ↦ subst (λ (q : ℕ). gate r (at + q) y ≡ shut (gate r (at + q) x)) (sym is) (here ∙ ap shut was)
+    | inr other ↦
+        let beside : gate r (at + k) y ≡ gate r (at + k) e = same.bytes r.chunk (place r (at + k) + 2047) (λ h. other (omega (arith, h.1))) in
+        beside ∙ so_far k (omega (arith, below, other))
+  ]
 
   -- one gate more is closed
   pub next_closed : (at i : ℕ) (e y : Image) → ((k : ℕ) → k < i → gate r (at + k) e ≢ 165) → SameBut (OpenGate r (at + i) e) e y → gate r (at + i) y ≢ 165

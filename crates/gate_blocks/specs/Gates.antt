@@ -11,6 +11,10 @@ place r k = 2048 * (r.first + k)
 abbrev pub gate : Region → ℕ → Image → ℕ
 gate r k x = byte x r.chunk (place r k + 2047)
 
+-- what closing makes of a gate: 0 of an open one; any other stays
+abbrev pub shut : ℕ → ℕ
+shut b = if b == 165 then 0 else b
+
 -- the bytes before it
 unfoldable pub body : Region → ℕ → Image → List ℕ
 body r k x = bytes_of x r.chunk (place r k) 2047

@@ -5,7 +5,7 @@ ghost use Rattle.std.specs.Prelude.{◌≡◌, ◌<◌, ◌≤◌, ◌+◌, ◌*
 ghost use Rattle.ids_outside.specs.Counts.{HasCause};
 ghost use Rattle.ids_outside.specs.Images.{Image, SameBut};
 ghost use Rattle.ids_outside.specs.Stops.{AreAmong, Only, Leaves};
-ghost use Rattle.gate_blocks.specs.Gates.{block, body, gate, Within, Staged, Opening, Closing, HasBodies, OpenGate};
+ghost use Rattle.gate_blocks.specs.Gates.{block, body, gate, shut, Within, Staged, Opening, Closing, HasBodies, OpenGate};
 
 use crate::Region;
 use ids_outside::{Disk, DiskFault, laws};
@@ -75,7 +75,7 @@ pub fn open_gates<D: Disk>(
     disk.sync()
 }
 
-/// Closes the gates of a region that are open, and syncs. A read for each block.
+/// Closes the gates of a region that are open, each by a zero byte, and syncs. A read for each block.
 pub fn clear<D: Disk>(disk: &mut D, region: &Region) -> Result<(), DiskFault>
     requires lies { region.now.first + region.now.count ≤ D.size disk.old region.now.chunk }
     // A gate that reads open is open whatever a stop leaves.
@@ -84,6 +84,7 @@ pub fn clear<D: Disk>(disk: &mut D, region: &Region) -> Result<(), DiskFault>
     ensures any_moment { Leaves D.now D.can_leave D.left_at disk.old disk.new (Closing region.now 0 region.now.count) }
     ensures shown { D.tells → Closing region.now 0 region.now.count (D.image disk.old) (D.image disk.new) }
     ensures closed { OnOk result (D.tells → (k : ℕ) → k < region.now.count → block region.now k (D.image disk.new) ≡ None) }
+    ensures zeroed { OnOk result (D.tells → (k : ℕ) → k < region.now.count → gate region.now k (D.image disk.new) ≡ shut (gate region.now k (D.image disk.old))) }
     ensures durable { OnOk result (Only (D.image disk.new) (D.can_leave disk.new)) }
     ensures sizes { (j : ℕ) → D.size disk.new j ≡ D.size disk.old j }
     ensures cause { HasCause (D.fault_count disk.old) (D.fault_count disk.new) result }
@@ -91,8 +92,8 @@ pub fn clear<D: Disk>(disk: &mut D, region: &Region) -> Result<(), DiskFault>
     clear_some(disk, region, 0, region.count)
 }
 
-/// Closes those of `count` gates from block `at` on that are open, and syncs. A stop at any moment leaves each of these
-/// blocks closed or as it was. A read for each block, and a write for each open gate.
+/// Closes those of `count` gates from block `at` on that are open, each by a zero byte, and syncs. A stop at any moment leaves
+/// each of these blocks closed or as it was. A read for each block, and a write for each open gate.
 pub fn clear_some<D: Disk>(
     disk: &mut D,
     region: &Region,
@@ -107,6 +108,7 @@ pub fn clear_some<D: Disk>(
     ensures any_moment { Leaves D.now D.can_leave D.left_at disk.old disk.new (Closing region.now at count) }
     ensures shown { D.tells → Closing region.now at count (D.image disk.old) (D.image disk.new) }
     ensures closed { OnOk result (D.tells → (k : ℕ) → Within at count k → block region.now k (D.image disk.new) ≡ None) }
+    ensures zeroed { OnOk result (D.tells → (k : ℕ) → Within at count k → gate region.now k (D.image disk.new) ≡ shut (gate region.now k (D.image disk.old))) }
     ensures durable { OnOk result (Only (D.image disk.new) (D.can_leave disk.new)) }
     ensures sizes { (j : ℕ) → D.size disk.new j ≡ D.size disk.old j }
     ensures cause { HasCause (D.fault_count disk.old) (D.fault_count disk.new) result }
@@ -156,6 +158,7 @@ fn close_gate<D: Disk>(disk: &mut D, region: &Region, at: u32) -> Result<(), Dis
     ensures any_moment { Leaves D.now D.can_leave D.left_at disk.old disk.new (SameBut (OpenGate region.now at (D.image disk.old))) }
     ensures shown { D.tells → SameBut (OpenGate region.now at (D.image disk.old)) (D.image disk.old) (D.image disk.new) }
     ensures closed { OnOk result (D.tells → ¬ (gate region.now at (D.image disk.new) ≡ 165)) }
+    ensures zeroed { OnOk result (D.tells → gate region.now at (D.image disk.new) ≡ shut (gate region.now at (D.image disk.old))) }
     ensures sizes { (j : ℕ) → D.size disk.new j ≡ D.size disk.old j }
     ensures cause { HasCause (D.fault_count disk.old) (D.fault_count disk.new) result }
 {

@@ -1,8 +1,8 @@
 use Rattle.std.proofs.Common.{◌≡◌, ◌+◌, ◌-◌, ◌<◌, ◌∙◌, subst, sym, ap, arith}
-use Rattle.gate_blocks.specs.Gates.{gate, block, Closing}
+use Rattle.gate_blocks.specs.Gates.{gate, shut, block, Closing}
 use Rattle.gate_blocks.proofs.Steps.{BlocksOf, BlockOf}
 use Rattle.gate_blocks.proofs.OneBlock.{block-closed, on_ok}
-use Rattle.gate_blocks.proofs.Closings.{closing, one_more, more_gates, gate-beside, next_closed}
+use Rattle.gate_blocks.proofs.Closings.{closing, one_more, more_gates, gate-beside, next_closed, next_zeroed}
 use Rattle.gate_blocks.proofs.blocks.clear_some.Goals as goal
 
 pub returns-in_err-close_gate-clause-any_moment : goal.returns-in_err-close_gate-clause-any_moment
@@ -46,6 +46,7 @@ loop-k-preserved g c =
           (λ x e y left so_far left_e last. one_more r at k (d.image old) (d.image mid) x e y so_far last (same (m.left_tells old (d.now old) x (m.counts_now old x left))));
       torn = λ tells. one_more r at k (d.image old) (d.image mid) _ _ _ (c.loop-k.invariant.torn tells) (c.close_gate.ensures.shown tells) (same tells);
       closed = λ tells. next_closed r at k (d.image mid) (d.image new) (c.loop-k.invariant.closed tells) (c.close_gate.ensures.shown tells) (c.in_ok-close_gate.ensures.closed tells);
+      zeroed = λ tells. next_zeroed r at k (d.image old) (d.image mid) (d.image new) (c.loop-k.invariant.zeroed tells) (c.close_gate.ensures.shown tells) (c.in_ok-close_gate.ensures.zeroed tells) (same tells);
       sizes = λ j. c.close_gate.ensures.sizes j ∙ c.loop-k.invariant.sizes j;
       faults = omega (arith, c.loop-k.invariant.faults, c.close_gate.ensures.cause.later);
     }
@@ -75,3 +76,13 @@ returns-clause-closed g c = on_ok c.sync.result (λ tells k inside.
     let below : q < c.loop-k.k = omega (arith, inside.0, inside.1, c.loop-k-test.false) in
     let shut = subst (λ p. ¬ (gate r p (d.image c.loop-k.disk) ≡ 165)) is (c.loop-k.invariant.closed tells q below) in
     ap (λ y. block r k y) c.sync.ensures.same ∙ block-closed r k (d.image c.loop-k.disk) shut)
+
+pub returns-clause-zeroed : goal.returns-clause-zeroed
+returns-clause-zeroed g c = on_ok c.sync.result (λ tells k inside.
+    let r = c.args.region.now in
+    let d = g.D.Disk in let old = c.args.disk.now in
+    let q = k - c.args.at in
+    let is : c.args.at + q ≡ k = omega (arith, inside.0) in
+    let below : q < c.loop-k.k = omega (arith, inside.0, inside.1, c.loop-k-test.false) in
+    ap (λ y. gate r k y) c.sync.ensures.same
+    ∙ subst (λ p. gate r p (d.image c.loop-k.disk) ≡ shut (gate r p (d.image old))) is (c.loop-k.invariant.zeroed tells q below))

@@ -1,7 +1,7 @@
 use Rattle.std.proofs.Common.{◌≡◌, ◌<◌, ◌≤◌, ◌+◌, ℕ}
 use Rattle.ids_outside.specs.Images.{SameBut}
 use Rattle.ids_outside.specs.Stops.{Leaves}
-use Rattle.gate_blocks.specs.Gates.{gate, OpenGate, OpenGates, Closing}
+use Rattle.gate_blocks.specs.Gates.{gate, shut, OpenGate, OpenGates, Closing}
 use Rattle.gate_blocks.proofs.Steps.{Blocks, BlocksOf, BlockOf}
 use Rattle.gate_blocks.proofs.blocks.clear_some.Given as goal
 
@@ -31,6 +31,7 @@ invariant-loop-k g l = record {
   run : Leaves g.D.Disk.now g.D.Disk.can_leave g.D.Disk.left_at l.fn.disk l.disk (SameBut (OpenGates l.region l.at l.k (g.D.Disk.image l.fn.disk)));
   torn : g.D.Disk.tells → SameBut (OpenGates l.region l.at l.k (g.D.Disk.image l.fn.disk)) (g.D.Disk.image l.fn.disk) (g.D.Disk.image l.disk);
   closed : g.D.Disk.tells → (k : ℕ) → k < l.k → ¬ (gate l.region (l.at + k) (g.D.Disk.image l.disk) ≡ 165);
+  zeroed : g.D.Disk.tells → (k : ℕ) → k < l.k → gate l.region (l.at + k) (g.D.Disk.image l.disk) ≡ shut (gate l.region (l.at + k) (g.D.Disk.image l.fn.disk));
   sizes : (j : ℕ) → g.D.Disk.size l.disk j ≡ g.D.Disk.size l.fn.disk j;
   faults : g.D.Disk.fault_count l.fn.disk ≤ g.D.Disk.fault_count l.disk;
 }

@@ -5,7 +5,7 @@ use Rattle.gate_blocks.specs.Gates.{gate, place, OpenGate}
 use Rattle.gate_blocks.proofs.Steps.{BlockOf}
 use Rattle.gate_blocks.proofs.Images.{wider, same_image}
 use Rattle.gate_blocks.proofs.OneBlock.{read_gate}
-use Rattle.gate_blocks.proofs.Closings.{wrote_gate}
+use Rattle.gate_blocks.proofs.Closings.{wrote_gate, wrote_zero, shut_open, shut_other}
 use Rattle.gate_blocks.proofs.blocks.close_gate.Goals as goal
 
 pub returns-in_err-read-clause-any_moment : goal.returns-in_err-read-clause-any_moment
@@ -56,3 +56,18 @@ returns-clause-closed g c =
     let d = g.D.Disk in let r = c.args.region.now in
     on_ok_weaker c.write_at.result (λ (written : d.tells → Written r.chunk (place r c.args.at + 2047) (0 ∷ []) (d.image c.read.new.self) (d.image c.write_at.new.self)) (tells : d.tells).
     wrote_gate r c.args.at _ _ (written tells)) c.write_at.ensures.written
+
+pub returns-then-gate-clause-zeroed : goal.returns-then-gate-clause-zeroed
+returns-then-gate-clause-zeroed g c = λ tells.
+    let r = c.args.region.now in let old = g.D.Disk.image c.args.disk.now in
+    let read = read_gate r c.args.at old _ (c.in_ok-read.ensures.bytes tells) in
+    let test = c.if-gate.true in
+    ap (λ x. gate r c.args.at x) c.read.ensures.same ∙ sym (shut_other (gate r c.args.at old) (λ is. test (read ∙ is)))
+
+pub returns-clause-zeroed : goal.returns-clause-zeroed
+returns-clause-zeroed g c =
+    let d = g.D.Disk in let r = c.args.region.now in
+    on_ok_weaker c.write_at.result (λ (written : d.tells → Written r.chunk (place r c.args.at + 2047) (0 ∷ []) (d.image c.read.new.self) (d.image c.write_at.new.self)) (tells : d.tells).
+    let read = read_gate r c.args.at (d.image c.args.disk.now) _ (c.in_ok-read.ensures.bytes tells) in
+    let is : gate r c.args.at (d.image c.args.disk.now) ≡ 165 = sym read ∙ c.if-gate.false in
+    wrote_zero r c.args.at _ _ (written tells) ∙ sym (shut_open (gate r c.args.at (d.image c.args.disk.now)) is)) c.write_at.ensures.written
