@@ -10,3 +10,4 @@ pub mod Kept
 pub mod Disks
 pub mod Runs
 pub mod Leaving
+pub mod LeavingBy

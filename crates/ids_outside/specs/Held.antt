@@ -1,7 +1,9 @@
 -- What contracts see of a disk in memory.
-use Rattle.std.specs.Prelude.{◌≡◌, ℕ, ◌*◌, List, [], map, replicate, take, if◌then◌else◌}
+use Rattle.std.specs.Prelude.{◌≡◌, ℕ, ◌*◌, false, List, [], map, replicate, take, if◌then◌else◌}
 use Rattle.ids_outside.specs.Images.{Image}
 use Rattle.ids_outside.specs.MemoryDisk.{images, nine, State, state, CanLeave, CouldLeave}
+use Rattle.ids_outside.specs.Kinds.{calls_by, left_by}
+use Rattle.ids_outside.specs.declared.leave.Leave.{Leave}
 use Rattle.ids_outside.specs.declared.mem_disk.MemDisk.{MemDisk}
 
 -- what it had at first
@@ -35,6 +37,10 @@ can_leave_now d c = CanLeave (state_at d d.moment) c
 -- what a stop could have left at a moment
 abbrev pub could_leave : MemDisk → ℕ → Image → Type 0
 could_leave d m c = CouldLeave (first_of d) d.entries.items d.moment m c
+
+-- what a stop of a kind leaves at a moment; the first write behind the last sync is no second one
+abbrev pub image_left_by : Leave → MemDisk → ℕ → Image
+image_left_by leave d m = left_by leave false (calls_by m d.entries.items) (first_of d)
 
 -- a chunk of zero pages for each of the first nine numbers
 abbrev pub zero_image : List ℕ → Image

@@ -6,3 +6,4 @@ pub mod Memory
 pub mod Recorded
 pub mod Stops
 pub mod Remade
+pub mod Kinds

@@ -1,7 +1,8 @@
 //! What a stop makes of the calls that are pending.
-ghost use Rattle.std.specs.Prelude.{◌≡◌, ◌≤◌, ◌<◌, ℕ, length, slice_index_or, false, OnOk};
+ghost use Rattle.std.specs.Prelude.{◌≡◌, ◌≤◌, ◌<◌, ℕ, length, drop, slice_index_or, true, false, OnOk};
 ghost use Rattle.ids_outside.specs.MemoryDisk.{images, put, extended};
 ghost use Rattle.ids_outside.specs.Remade.{is_synced, SomeBytes, Remade, done};
+ghost use Rattle.ids_outside.specs.Kinds.{write_left, tear_left, grow_left, call_left, is_next_second as next_second, calls_by, has_sync};
 
 use crate::chunks;
 use crate::record::{Call, Entry};
@@ -35,6 +36,7 @@ pub fn synced_entries(entries: &[Entry], moment: u64) -> usize
     ensures few { result ≤ length entries.now }
     ensures last { (k : ℕ) (d : Entry) → result ≤ k → k < length entries.now → (slice_index_or entries.now k d).moment ≤ moment
         → is_synced (slice_index_or entries.now k d).call ≡ false }
+    ensures synced { (k : ℕ) → k < result → has_sync (calls_by moment (drop k entries.now)) ≡ true }
 {
     let mut synced = 0;
     for (i, entry) in entries.iter().enumerate() {
@@ -45,6 +47,16 @@ pub fn synced_entries(entries: &[Entry], moment: u64) -> usize
     synced
 }
 
+// Whether the next write is a second one, by whether this call would be.
+pub fn is_next_second(second: bool, call: &Call) -> bool
+    ensures { result ≡ next_second second call.now }
+{
+    match call {
+        Call::Wrote(..) => !second,
+        Call::Tore(..) | Call::Grew(..) | Call::Synced => second,
+    }
+}
+
 // Makes a call again, or what a stop leaves of it. A write counts where it is a second one.
 pub fn remake(
     image: &mut Vec<Vec<u8>>,
@@ -52,6 +64,7 @@ pub fn remake(
     leave: Leave,
     second: bool,
 ) -> Result<(), AllocError>
+    ensures left { OnOk result (images image.new.items ≡ call_left leave second call.now (images image.old.items)) }
     ensures some { OnOk result (Remade call.now (images image.old.items) (images image.new.items)) }
     ensures new { OnOk result (leave ≡ Leave.New → images image.new.items ≡ done call.now (images image.old.items)) }
 {
@@ -77,6 +90,7 @@ fn write_some(
     leave: Leave,
     second: bool,
 )
+    ensures left { images image.new.items ≡ write_left leave second chunk at bytes.now (images image.old.items) }
     ensures some { SomeBytes chunk at (length bytes.now) (images image.old.items) (images image.new.items) }
     ensures new { leave ≡ Leave.New → images image.new.items ≡ put (images image.old.items) chunk at bytes.now }
 {
@@ -93,6 +107,7 @@ fn write_some(
 }
 
 fn tear_some(image: &mut Vec<Vec<u8>>, chunk: usize, at: usize, len: usize, leave: Leave)
+    ensures left { images image.new.items ≡ tear_left leave chunk at len (images image.old.items) }
     ensures some { SomeBytes chunk at len (images image.old.items) (images image.new.items) }
     ensures new { leave ≡ Leave.New → images image.new.items ≡ images image.old.items }
 {
@@ -108,6 +123,7 @@ fn grow_some(
     pages: u32,
     leave: Leave,
 ) -> Result<(), AllocError>
+    ensures left { OnOk result (images image.new.items ≡ grow_left leave chunk pages (images image.old.items)) }
     ensures some { OnOk result (Remade (Call.Grew chunk pages) (images image.old.items) (images image.new.items)) }
     ensures new { OnOk result (leave ≡ Leave.New → images image.new.items ≡ extended (images image.old.items) chunk pages 0) }
 {

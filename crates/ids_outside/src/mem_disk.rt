@@ -4,7 +4,7 @@ ghost use Rattle.ids_outside.specs.Images.{pages_of, IsImage};
 ghost use Rattle.ids_outside.specs.MemoryDisk.{images, nine, state, all_by, CanLeave};
 
 use crate::failures::Failures;
-use crate::leave::{Leave, remake, synced_entries};
+use crate::leave::{Leave, is_next_second, remake, synced_entries};
 use crate::record::{Call, Entry, note, note_write};
 use crate::{Disk, DiskFault, chunks};
 use std::alloc::{AllocError, Global};
@@ -35,7 +35,7 @@ pub struct MemDisk {
 impl MemDisk {
     ghost use Rattle.std.specs.Prelude.{◌≡◌, IfOk};
     ghost use Rattle.ids_outside.specs.MemoryDisk.{images, IsMemoryImage};
-    ghost use Rattle.ids_outside.specs.Held.{IsFresh, zero_image, could_leave, moment_of};
+    ghost use Rattle.ids_outside.specs.Held.{IsFresh, zero_image, could_leave, image_left_by, moment_of};
 
     /// A disk of zero pages with nothing pending, whose chunks have so many pages; numbers behind the ninth count for
     /// nothing. Its calls of `read`, `write_at`, `grow` and `sync` with the listed numbers, counted from 1, fail.
@@ -63,7 +63,8 @@ impl MemDisk {
         }
     }
 
-    /// An image that a stop at this moment could have left. Its cost is that of the calls up to the moment.
+    /// The image that a stop of this kind at this moment leaves, which is one that a stop could have left. Its cost is
+    /// that of the calls up to the moment.
     pub fn left_at(
         &self,
         alloc: Global,
@@ -71,16 +72,20 @@ impl MemDisk {
         leave: Leave,
     ) -> Result<Vec<Vec<u8>>, AllocError>
         requires { moment ≤ moment_of self.now }
-        ensures { IfOk result (λ image. could_leave self.now moment (images image.items)) }
+        ensures may { IfOk result (λ image. could_leave self.now moment (images image.items)) }
+        ensures left { IfOk result (λ image. images image.items ≡ image_left_by leave self.now moment) }
     {
         let mut image = first_image(alloc, &self.image, &self.first, self.started)?;
         let synced = synced_entries(&self.entries, moment);
         let mut second = false;
         for (i, entry) in self.entries.iter().enumerate() {
             if entry.moment <= moment {
-                let how = if i < synced { Leave::New } else { leave };
-                remake(&mut image, &entry.call, how, second)?;
-                second = i >= synced && second != matches!(&entry.call, Call::Wrote(..));
+                if i < synced {
+                    remake(&mut image, &entry.call, Leave::New, second)?;
+                } else {
+                    remake(&mut image, &entry.call, leave, second)?;
+                    second = is_next_second(second, &entry.call);
+                }
             }
         }
         Ok(image)
