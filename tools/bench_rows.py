@@ -6,29 +6,14 @@ in transactions of 100 statements; from its time that of a run over the same dis
 Then what a row costs a small table, while another has thousands of pages with room: tables whose numbers are so many greater.
 Needs the built program crates/ids/out/ids.
 Usage: tools/bench_rows.py [ROWS [FOLDER]]   (10^3, 10^4, .. up to ROWS, 100000 by default; a folder on the file system that is to be used)"""
-import os, random, shutil, struct, subprocess, sys, tempfile, time
+import os, random, shutil, subprocess, sys, tempfile, time
+
+from blank_disk import Layout, write_blank_disk
 
 program = os.path.join(os.path.dirname(os.path.abspath(__file__)), "..", "crates", "ids", "out", "ids")
 most = int(sys.argv[1]) if len(sys.argv) > 1 else 100000
 base = sys.argv[2] if len(sys.argv) > 2 else "/tmp"
-PAGE = 2048
-PHYS, LOGS, LOG_SIZE, CHUNKS, DATA = 64, 64, 1024, 1, 8192
-ROOT = 3 + PHYS + LOGS * LOG_SIZE
-
-
-def gated(fields):
-    return fields + bytes(PAGE - 1 - len(fields)) + b"\xa5"
-
-
-def format_disk(folder):
-    """The two chunk files, as docs/FORMATS.md says: an identity page, and checkpoint page 1, quiet, whose log begins with block 1."""
-    identity = b"IDSR" + struct.pack(">H6I", 1, PHYS, LOGS, LOG_SIZE, CHUNKS, DATA, ROOT)
-    checkpoint = struct.pack(">QBQH", 1, 0, 1, 0)
-    with open(os.path.join(folder, "root.chk"), "wb") as file:
-        file.write(gated(identity) + gated(checkpoint))
-        file.truncate(ROOT * PAGE)
-    with open(os.path.join(folder, "data1.chk"), "wb") as file:
-        file.truncate(DATA * PAGE)
+LAYOUT = Layout(logs=64, log_size=1024, data=8192, root=3 + 64 + 64 * 1024)
 
 
 def run(folder, statements):
@@ -48,7 +33,7 @@ def run(folder, statements):
 def measure(rows):
     folder = tempfile.mkdtemp(prefix="ids-rows-", dir=base)
     try:
-        format_disk(folder)
+        write_blank_disk(folder, LAYOUT)
         run(folder, ["CREATE TABLE t (k INTEGER, v INTEGER)"])
         random.seed(rows)
         keys = random.sample(range(10 * rows), rows)
@@ -72,7 +57,7 @@ def measure_beside(rows):
     """Rows are put into small tables, while the first table has some thousand pages that are half full."""
     folder = tempfile.mkdtemp(prefix="ids-rows-", dir=base)
     try:
-        format_disk(folder)
+        write_blank_disk(folder, LAYOUT)
         run(folder, ["CREATE TABLE t0 (k INTEGER, c CHAR(796))"] + [f"CREATE TABLE t{n} (k INTEGER, v INTEGER)" for n in range(1, 130)])
         run(folder, [f"INSERT INTO t0 VALUES ({key}, 'x')" for key in range(12000)])
         run(folder, [f"DELETE FROM t0 WHERE k = {key}" for key in range(0, 12000, 2)])
