@@ -113,7 +113,7 @@ def closed_word(closed):
     with new_disk([1]) as folder:
         before = chunk_files(folder)
         status, _ = run_closed(folder, "sprint", closed, "")
-        expect(status in ({1, 5} if 1 in closed else {1}), f"a word that is no command: status {status}")
+        expect(status == 1, f"a word that is no command: status {status}")
         expect(chunk_files(folder) == before, "a word that is no command: files changed")
 
 
@@ -124,7 +124,7 @@ def closed_init(closed):
         expect(ids(folder, "run", text=TABLE + inserts([1]))[0] == 0, "init: the disk does not open")
         before = chunk_files(folder)
         status, _ = run_closed(folder, "init", closed, "")
-        expect(status in ({10, 5} if 1 in closed else {10}), f"init again: status {status}")
+        expect(status == 10, f"init again: status {status}")
         expect(chunk_files(folder) == before, "init again: files changed")
         expect_rows(folder, [1], [1], "init again")
 
