@@ -24,16 +24,18 @@ use Rattle.ids_server.specs.declared.runner.Runner.{Runner}
 use Rattle.ids_server.specs.Running.{Running, effects_of}
 use Rattle.ids_server.specs.Runners.{running_of, KeepsRun}
 use Rattle.ids_server.specs.Moments.{HaveMoments}
+use Rattle.ids_server.proofs.Refused.{TellsBad}
 use Rattle.ids_server.specs.Serving.{Serves, HasRun, LeavesFirst, RunsFrom, has_checked}
 
 -- where nothing was given and nothing committed, any script is served
-pub serves_nothing : ServedAtStart → (bytes : List ℕ) (found : Tables) (status : Status) → ¬ (status ≡ Done) → (has_checked status ≡ true → InGrammar bytes) → Serves bytes found status [] []
-serves_nothing starts bytes found status not_done checked = record {
+pub serves_nothing : ServedAtStart → (bytes : List ℕ) (found : Tables) (status : Status) → ¬ (status ≡ Done) → (has_checked status ≡ true → InGrammar bytes) → TellsBad bytes status → Serves bytes found status [] []
+serves_nothing starts bytes found status not_done checked bad = record {
   matches = λ script is. (starts script 1 found).matches;
   replies = λ script is. (starts script 1 found).answered;
   answered = λ done. absurd (not_done done);
   ran = checked;
   unread = inl (refl, refl);
+  bad = bad;
 }
 
 -- where a stop leaves the first of a journal's transactions, it leaves the tables after its first entries
@@ -58,11 +60,11 @@ pub record RunLaws : Type 0 where
 
 module _ {D : Type 0} (tells : Type 0) (now : D → ℕ) (image : D → Image) (can_leave : D → Image → Type 0) (left_at : D → ℕ → Image → Type 0) where
   -- A disk on which nothing was run: where each stop leaves the tables as they were, it leaves those after no entry.
-  nothing_ran : ServedAtStart → (bytes : List ℕ) (found : Tables) (old new : D) (status : Status) (failed : Type 0) → ¬ (status ≡ Done) → (has_checked status ≡ true → InGrammar bytes)
+  nothing_ran : ServedAtStart → (bytes : List ℕ) (found : Tables) (old new : D) (status : Status) (failed : Type 0) → ¬ (status ≡ Done) → (has_checked status ≡ true → InGrammar bytes) → TellsBad bytes status
       → (failed → status ≡ DiskFault) → TablesStay now image can_leave left_at old new failed → RunsFrom tells now image can_leave left_at bytes found old new status [] []
-  nothing_ran starts bytes found old new status failed not_done checked so stay = record {
+  nothing_ran starts bytes found old new status failed not_done checked bad so stay = record {
     legal = tt;
-    serves = serves_nothing starts bytes found status not_done checked;
+    serves = serves_nothing starts bytes found status not_done checked bad;
     moments = tt;
     opened = λ t T recovers. inl (refl, refl);
     any_moment = λ bound. each-as now image can_leave left_at old new failed _ (λ m c. KeepsTables (image old) c) (λ m c. (T : Tables) → Recovers (image old) T → LeavesFirst T [] m c)
@@ -78,10 +80,10 @@ module _ {D : Type 0} (tells : Type 0) (now : D → ℕ) (image : D → Image) (
       (subst (λ (gs : List Given). RunsFrom tells now image can_leave left_at bytes found old new status journal gs) (sym alike) ran)
 
   pub runs_nothing : ServedAtStart → (bytes : List ℕ) (found : Tables) (old new : D) (status : Status) (failed : Type 0) (journal : List Committed) (given : List Given) → journal ≡ [] → given ≡ []
-      → ¬ (status ≡ Done) → (has_checked status ≡ true → InGrammar bytes)
+      → ¬ (status ≡ Done) → (has_checked status ≡ true → InGrammar bytes) → TellsBad bytes status
       → (failed → status ≡ DiskFault) → TablesStay now image can_leave left_at old new failed → RunsFrom tells now image can_leave left_at bytes found old new status journal given
-  runs_nothing starts bytes found old new status failed journal given none no_reply not_done checked so stay =
-      runs_shown bytes found old new status [] journal [] given none no_reply (nothing_ran starts bytes found old new status failed not_done checked so stay)
+  runs_nothing starts bytes found old new status failed journal given none no_reply not_done checked bad so stay =
+      runs_shown bytes found old new status [] journal [] given none no_reply (nothing_ran starts bytes found old new status failed not_done checked bad so stay)
 
 module _ {D : Type 0} (tells : Type 0) (size : D → ℕ → ℕ) (now : D → ℕ) (image : D → Image) (can_leave : D → Image → Type 0) (left_at : D → ℕ → Image → Type 0) where
   -- a runner that was made of a store keeps what the store keeps
@@ -93,7 +95,7 @@ module _ {D : Type 0} (tells : Type 0) (size : D → ℕ → ℕ) (now : D → �
 
   -- A run over the store that was made of a disk: the tables that were found are the store's.
   pub runs_over : RunLaws → ((d : D) (m : ℕ) (c : Image) → left_at d m c → tells) → (bytes : List ℕ) (store : Store) (old opened new : D) (status : Status) (journal : List Committed) (given : List Given)
-      → InGrammar bytes
+      → InGrammar bytes → TellsBad bytes status
       → ((T : Tables) → tells → Recovers (image old) T → HasFound tells size now image can_leave left_at store old opened T)
       → ((script : Script) → IsScriptOf bytes script → HasRun script store.tables status journal given)
       → HaveMoments (now new) journal
@@ -101,7 +103,7 @@ module _ {D : Type 0} (tells : Type 0) (size : D → ℕ → ℕ) (now : D → �
       → (status ≡ Done → (since : ℕ) (base : Image) (found : Tables) → KeepsStore tells size now image can_leave left_at since base found [] [] store opened
       → (c : Image) → can_leave new c → Recovers c (tables_from found (done_of journal)))
       → RunsFrom tells now image can_leave left_at bytes store.tables old new status journal given
-  runs_over laws left_tells bytes store old opened new status journal given grammar finds has_run moments survives at_end =
+  runs_over laws left_tells bytes store old opened new status journal given grammar bad finds has_run moments survives at_end =
       let script = laws.scripts bytes grammar in
       let ran = has_run script.0 script.1 in
       record {
@@ -112,6 +114,7 @@ module _ {D : Type 0} (tells : Type 0) (size : D → ℕ → ℕ) (now : D → �
           answered = λ done s is. (has_run s is).answered done;
           ran = λ _. grammar;
           unread = inr grammar;
+          bad = bad;
         };
         moments = moments;
         opened = λ t T recovers. inr (finds T t recovers).tables;

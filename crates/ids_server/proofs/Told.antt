@@ -1,5 +1,5 @@
 -- What the statuses of a command leave open.
-use Rattle.std.proofs.Common.{◌≡◌, refl, ap, subst, inl, inr, ℕ, true, false, List, [], ◌∷◌, ◌++◌}
+use Rattle.std.proofs.Common.{◌≡◌, ◌∙◌, refl, sym, ap, subst, inl, inr, ℕ, true, false, List, [], ◌∷◌, ◌++◌}
 use Rattle.ids_base.specs.declared.status.Place.{Place}
 use Rattle.ids_base.specs.declared.status.Why.{Why}
 use Rattle.ids_base.specs.declared.status.Why.TheVariants.{Wrong}
@@ -39,6 +39,12 @@ sessions_accept (Damaged place) own = cc
 sessions_accept AlreadyFormatted own = cc
 sessions_accept (TooSmall pages needed) own = refl
 sessions_accept LogFull own = refl
+
+-- and its script was good
+pub sessions_read : (s : Status) → is_of_session s ≡ true → (byte : ℕ) (why : Why) → ¬ (s ≡ BadScript byte why)
+sessions_read s own byte why is =
+    let never : is_of_session (BadScript byte why) ≡ true = ap is_of_session (sym is) ∙ own in
+    cc
 
 -- what a script can have, the command that runs it can
 pub scripts_are_run : (s : Status) → is_of_script s ≡ true → is_of_run s ≡ true

@@ -1,6 +1,7 @@
 -- What a command gives back.
 use Rattle.std.specs.Prelude.{◌≡◌, ◌⊎◌, ◌<◌, ℕ, Bool, true, false, List, [], length}
 use Rattle.ids_base.specs.declared.status.Status.{Status}
+use Rattle.ids_base.specs.declared.status.Why.{Why}
 use Rattle.ids_base.specs.declared.status.Why.TheVariants.{Wrong}
 use Rattle.ids_base.specs.declared.status.Status.TheVariants.{Done, BadWords, BadScript, DiskFault, Memory, SinkFault, SourceFault, TooLong, NotFormatted, Damaged, AlreadyFormatted, TooSmall, LogFull}
 use Rattle.ids_outside.specs.Counts.{last_count}
@@ -168,13 +169,15 @@ is_of_refused_disk (TooSmall pages needed) = false
 is_of_refused_disk LogFull = false
 
 -- for the script of these bytes, the journal matches it and the replies, and each reply says what the tables of its moment say, from those that were found;
--- where all was done, each statement has its reply; where the bytes are no script, nothing was given and nothing committed
+-- where all was done, each statement has its reply; where the bytes are no script, nothing was given and nothing committed; and the place that is told of a bad script is that of
+-- the first bad line of the bytes
 pub record Serves (bytes : List ℕ) (found : Tables) (status : Status) (journal : List Committed) (given : List Given) : Type 0 where
   pub matches : (script : Script) → IsScriptOf bytes script → Matches script journal given
   pub replies : (script : Script) → IsScriptOf bytes script → Answered script found journal given
   pub answered : status ≡ Done → (script : Script) → IsScriptOf bytes script → AllAnswered script given
   pub ran : has_checked status ≡ true → InGrammar bytes
   pub unread : (journal ≡ []) × (given ≡ []) ⊎ InGrammar bytes
+  pub bad : (byte : ℕ) (why : Why) → status ≡ BadScript byte why → IsBadAt bytes byte × (why ≡ Wrong)
 
 -- it is so, or no script was read: the source failed, or memory was wanting
 abbrev pub UnlessUnread : Status → Type 0 → Type 0

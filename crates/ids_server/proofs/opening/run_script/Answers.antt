@@ -7,7 +7,7 @@ use Rattle.ids_engine.specs.OutOfBlocks.{HasNoBlock}
 use Rattle.fast_recovery.specs.declared.fault.OpenFault.TheVariants.{Disk}
 use Rattle.ids_engine.specs.declared.store.Store.{Store}
 use Rattle.ids_server.specs.Serving.{HasRun, has_opened, is_before_disk, is_of_refused_disk}
-use Rattle.ids_server.proofs.Told.{sessions_look, sessions_accept}
+use Rattle.ids_server.proofs.Told.{sessions_look, sessions_accept, sessions_read}
 use Rattle.ids_server.proofs.Opened.{runs_nothing, runs_shown, keeps_at_start, runs_over}
 use Rattle.ids_server.proofs.opening.run_script.Goals as goal
 
@@ -17,6 +17,7 @@ returns-in-Err-clause-ran g c = λ bytes is grammar.
       none,
       runs_nothing g.D.Disk.tells g.D.Disk.now g.D.Disk.image g.D.Disk.can_leave g.D.Disk.left_at c.served_at_start.ensures bytes none _ _ _ _ _ _ c.nothing.ensures.journal c.nothing.ensures.given
           (λ done. c.status_of.ensures.not_done (sym c.nothing.ensures.status ∙ done)) (λ _. grammar)
+          (λ byte why told. absurd (c.status_of.ensures.no_bad_script byte why (sym c.nothing.ensures.status ∙ told)))
           (λ failed. c.nothing.ensures.status ∙ c.status_of.ensures.disk.1 (let fault : c.in-Err.fault ≡ Disk = cc in fault)) c.in-Err.ensures.any_moment,
     )
 
@@ -31,6 +32,7 @@ returns-clause-ran g c = λ bytes is grammar.
           (runs_over g.D.Disk.tells g.D.Disk.size g.D.Disk.now g.D.Disk.image g.D.Disk.can_leave g.D.Disk.left_at
           (record { scripts = c.every_script_has_plans.ensures; covered = c.firsts_are_covered.ensures; leave = c.transactions_leave_tables.ensures }) g.met.D.Disk.left_tells
           bytes store c.args.disk.now c.from_disk.new.disk c.run-status.new.disk c.run-status.result c.run-status.new.runner.journal.items c.run-status.new.runner.given.items grammar
+          (λ byte why told. absurd (sessions_read c.run-status.result c.run-status.ensures.own byte why told))
           c.in-Ok.ensures.kept
           (λ script each. subst (λ (s : Store). HasRun script s.tables c.run-status.result c.run-status.new.runner.journal.items c.run-status.new.runner.given.items) c.new-runner.ensures.store
           (c.run-status.ensures.ran script bytes is each))
