@@ -1,6 +1,8 @@
 pub mod Answering
 pub mod CommitsShown
 pub mod Deletions
+pub mod FoundByKey
+pub mod OwnKeys
 pub mod EffectsStand
 pub mod EntryLengths
 mod Examples

@@ -4,6 +4,7 @@ pub mod Legal
 pub mod Logged
 pub mod Matches
 pub mod Meaning
+pub mod Keyed
 pub mod Moves
 pub mod Puts
 pub mod Recovered

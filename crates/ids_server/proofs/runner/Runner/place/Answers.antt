@@ -5,7 +5,9 @@ use Rattle.std.specs.List.{AllByRecursion}
 use Rattle.ids_model.specs.declared.effect.Effect.{Effect}
 use Rattle.ids_model.specs.declared.outcome.Outcome.{Outcome}
 use Rattle.ids_model.specs.Tables.{Tables}
+use Rattle.ids_model.specs.Keyed.{AreKeyed}
 use Rattle.ids_model.specs.Meaning.{one}
+use Rattle.ids_model.proofs.OwnKeys.{standing-keyed}
 use Rattle.ids_engine.specs.Stores.{KeepsStore}
 use Rattle.ids_engine.specs.declared.store.StoreFault.TheVariants as faults
 use Rattle.ids_engine.proofs.OutOfBlocks.{same_fault}
@@ -14,6 +16,12 @@ use Rattle.ids_server.proofs.Answers.{always_err}
 use Rattle.ids_server.proofs.Outcomes.{rows_go, alone, changes_one, may_lack}
 use Rattle.ids_server.proofs.Taking.{on_done, on_no_space, no_room}
 use Rattle.ids_server.proofs.runner.Runner.place.Goals as goal
+
+pub outcome_of-requires : goal.outcome_of-requires
+outcome_of-requires g c = record {
+  keyed = subst AreKeyed (sym c.tables.ensures)
+      (standing-keyed c.args.self.now.store.rows.state.own c.args.self.now.store.rows.state.slots c.args.self.now.store.tables c.requires.store.keeps.memory.stands.stands);
+}
 
 pub take_rows-requires-clause-rows : goal.take_rows-requires-clause-rows
 take_rows-requires-clause-rows g c =
