@@ -1,20 +1,19 @@
 -- Where each row stands under its own key, those that meet a condition that names a key are found by it.
-use Rattle.std.proofs.Common.{◌≡◌, true, false, Bool, cond, ◌&&◌, T, refl, ap, sym, subst, ◌∙◌, List, [], ◌∷◌, Option, Some, None}
+use Rattle.std.proofs.Common.{◌≡◌, true, false, Bool, cond, ◌&&◌, T, refl, ap, sym, subst, ◌∙◌, List, [], ◌∷◌, Option, Some}
 use Rattle.std.specs.Prelude.{filter}
 use Rattle.std.specs.List.{AllByRecursion}
 use Rattle.std.specs.FinMap.{entries, entries_sorted, get, get-entries, find}
 use Rattle.std.specs.FinMap.Entries.{is_sorted, below_all}
-use Rattle.std.specs.Ordering.{is_eq, is_lt}
+use Rattle.std.specs.Ordering.{is_eq}
 use Rattle.std.specs.Cmp.{tied_itself}
 use Rattle.ids_base.specs.declared.value.Value.{Value}
 use Rattle.ids_base.specs.declared.plan.Comparison.{Comparison}
 use Rattle.ids_base.specs.declared.plan.Comparison.TheVariants.{Equal, NotEqual, Less, AtMost, Greater, AtLeast}
 use Rattle.ids_base.specs.declared.plan.Term.{Term}
-use Rattle.ids_base.specs.declared.shape.Column.{Column}
 use Rattle.ids_base.specs.Values.{value_cmp}
 use Rattle.ids_base.specs.Orders.{values_total}
 use Rattle.ids_model.specs.Tables.{Row, Shape, Rows}
-use Rattle.ids_model.specs.Rows.{same_name, cell, holds, holds_of, is_equal, names_key, key_named, meets}
+use Rattle.ids_model.specs.Rows.{same_name, cell, holds_of, is_equal, names_key, key_named, meets}
 use Rattle.ids_model.specs.Fits.{key_of}
 use Rattle.ids_model.specs.Keyed.{IsKeyed, entry}
 use Rattle.ids_model.specs.Meaning.{chosen}

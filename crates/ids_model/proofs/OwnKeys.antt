@@ -4,7 +4,6 @@ use Rattle.std.specs.FinMap.{get, get-empty}
 use Rattle.ids_base.specs.declared.value.Value.{Value}
 use Rattle.ids_base.specs.Values.{value_cmp}
 use Rattle.ids_model.specs.Tables.{Row, Shape, Name, Table, Tables, shape_of, rows_in, shape_at, row_at}
-use Rattle.ids_model.specs.Fits.{key_of}
 use Rattle.ids_model.specs.Slots.{Own, Slots}
 use Rattle.ids_model.specs.Stands.{Stands}
 use Rattle.ids_model.specs.Keyed.{IsKeyed, AreKeyed}

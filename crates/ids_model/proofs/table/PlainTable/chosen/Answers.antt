@@ -1,8 +1,4 @@
-use Rattle.std.proofs.Common.{◌≡◌, ◌∙◌, sym, ap, Result, Ok, Err, IfOk, List, Option, Some}
-use Rattle.std.specs.Prelude.{map, filter, option_copied}
-use Rattle.std.specs.FinMap.{get}
-use Rattle.std.specs.Map.Iter.{deref_pair}
-use Rattle.ids_base.specs.declared.value.Value.{Value}
+use Rattle.std.proofs.Common.{◌∙◌, sym, ap, Result, Ok, Err, IfOk}
 use Rattle.ids_model.specs.Tables.{Table}
 use Rattle.ids_model.specs.Rows.{key_named}
 use Rattle.ids_model.proofs.FoundByKey.{found-by-key}
