@@ -231,7 +231,10 @@ fn a_broken_block_is_named_and_loses_nothing(rt: HostRuntime) -> Result<(), Fail
         Record::Begin { tx: 1, session: 1 },
         insert(alloc, 1, 257, FIRST)?,
     ];
-    let bodies = [body(&rt, 1, &first), body(&rt, 2, &[Record::Rollback { tx: 1 }])];
+    let bodies = [
+        body(&rt, 1, &first),
+        body(&rt, 2, &[Record::Rollback { tx: 1 }]),
+    ];
     assert_eq!(rt; append(&mut disk, &bodies), Ok(()));
     for block in [1, 2] {
         write_count(&mut disk, block, 4)?;

@@ -1,15 +1,13 @@
 -- The moments of a journal that grows.
-use Rattle.std.proofs.Common.{◌≡◌, refl, sym, subst, inl, inr, ⊎_elim, ℕ, ◌≤◌, List, [], ◌∷◌, ◌++◌, Option, Some, None, arith}
-use Rattle.std.specs.List.{AllByRecursion}
+use Rattle.std.proofs.Common.{◌≡◌, sym, subst, ⊎_elim, ℕ, ◌≤◌, List, [], ◌∷◌, ◌++◌, Option, Some, None, arith}
 use Rattle.ids_base.specs.declared.plan.Plan.{Plan}
 use Rattle.ids_base.specs.declared.plan.Plan.TheVariants.{Data, Begin, Commit, Rollback}
-use Rattle.ids_base.specs.declared.reply.Reply.{Reply}
 use Rattle.ids_model.specs.declared.effect.Effect.{Effect}
 use Rattle.ids_model.specs.declared.journal.DoneStatement.{DoneStatement}
 use Rattle.ids_model.specs.declared.journal.Committed.{Committed}
 use Rattle.ids_model.specs.Served.{entry_now, entry_unanswered}
 use Rattle.ids_server.specs.declared.runner.Transaction.{Transaction}
-use Rattle.ids_server.specs.Moments.{IsUpTo, IsFlushedBefore, HasMoments, HaveMoments}
+use Rattle.ids_server.specs.Moments.{IsUpTo, HasMoments, HaveMoments}
 use Rattle.ids_server.specs.Running.{Running, flushed_at, data_by, begin_by, commit_by, rollback_by, Steps, Fails, IsUnanswered}
 
 up_to : (a b : ℕ) (moment : Option ℕ) → a ≤ b → IsUpTo a moment → IsUpTo b moment

@@ -1,11 +1,11 @@
-use Rattle.std.proofs.Common.{◌≡◌, ◌≤◌, sym, subst, []}
+use Rattle.std.proofs.Common.{sym, subst, []}
 use Rattle.ids_outside.specs.Images.{Image}
 use Rattle.log_files.specs.Log.{EndsWhole}
 use Rattle.log_files.specs.Files.{Files, IsRead, Clears}
 use Rattle.log_buffer.specs.Kept.{tail_entries}
 use Rattle.log_buffer.proofs.Logs.{log_clears}
 use Rattle.fast_recovery.specs.Images.{log_region}
-use Rattle.fast_recovery.specs.Opening.{files_from, SameLog}
+use Rattle.fast_recovery.specs.Opening.{files_from}
 use Rattle.fast_recovery.proofs.Keeping.{is-read, same-log}
 use Rattle.fast_recovery.proofs.opening.start_log.Goals as goal
 

@@ -1,4 +1,4 @@
-use Rattle.std.proofs.Common.{◌≡◌, ◌≤◌, ◌+◌, Some, None, refl, arith, rules, sym, subst, ap, ◌∙◌}
+use Rattle.std.proofs.Common.{◌≡◌, ◌≤◌, ◌+◌, Some, refl, arith, rules, sym, subst, ap, ◌∙◌}
 use Rattle.gate_blocks.specs.declared.region.Region.{Region}
 use Rattle.ids_outside.specs.Images.{Image}
 use Rattle.log_files.specs.Log.{body_at, IsReadAs}
