@@ -2,10 +2,11 @@
 ghost use Rattle.chunk_map.specs.Layouts.{IsLayout, HasPages};
 
 use super::*;
+use ids_base::memory::Memory;
 use ids_base::position::LogPos;
 use ids_base::status::Place;
 use ids_outside::{Disk, DiskFault, Leave, MemDisk, is_image};
-use std::alloc::{AllocError, Global};
+use std::alloc::Global;
 use std::test::Fail;
 
 const SMALL: Layout = Layout {
@@ -17,7 +18,7 @@ const SMALL: Layout = Layout {
     root: 43,
 };
 
-fn small_disk(alloc: Global) -> Result<MemDisk, AllocError> {
+fn small_disk(alloc: Global) -> Result<MemDisk, Memory> {
     MemDisk::new(alloc, &[43, 2], Vec::new(alloc))
 }
 

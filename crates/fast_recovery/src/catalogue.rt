@@ -19,7 +19,7 @@ use crate::slots::FilledSlots;
 use crate::tables::TablesFault;
 use ids_base::memory::Memory;
 use ids_base::name::Name;
-use ids_base::numbers::TableNo;
+use ids_base::numbers::{CATALOGUE, CATALOGUE_ROW, TableNo};
 use ids_model::effect::Effect;
 use ids_model::tables::PlainTables;
 use row_codec::{CatalogueRow, decode_table, row_length};
@@ -138,8 +138,8 @@ impl Catalogue {
         requires { HaveGoodShapes self.now.tables }
         ensures { result ≡ may_own self.now.tables self.now.names owner }
     {
-        if owner.table == 1 {
-            return owner.row_length == 359;
+        if owner.table == CATALOGUE {
+            return owner.row_length == CATALOGUE_ROW;
         }
         match self.names.get(owner.table) {
             None => true,

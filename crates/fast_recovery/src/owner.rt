@@ -2,7 +2,7 @@
 ghost use Rattle.std.specs.Prelude.{◌≡◌, ◌↔◌, IsTrue};
 ghost use Rattle.ids_model.specs.Stands.{catalogue};
 
-use ids_base::numbers::TableNo;
+use ids_base::numbers::{CATALOGUE, CATALOGUE_ROW, TableNo};
 use std::marker::Model;
 
 /// The owner of a page: a table, and the length of its rows. Contracts see the pair of both.
@@ -27,6 +27,6 @@ impl Owner {
     pub(crate) fn is_catalogue(&self) -> bool
         ensures { IsTrue result ↔ (self.now ≡ catalogue) }
     {
-        self.table == 1 && self.row_length == 359
+        self.table == CATALOGUE && self.row_length == CATALOGUE_ROW
     }
 }

@@ -8,9 +8,17 @@ ghost use Rattle.ids_outside.specs.Stops.{AreAmong, Only, Leaves};
 ghost use Rattle.gate_blocks.specs.Gates.{block, body, gate, shut, Within, Staged, Opening, Closing, HasBodies, OpenGate};
 
 use crate::Region;
+use ids_base::numbers::PAGE_BYTES;
 use ids_outside::{Disk, DiskFault, laws};
 use std::marker::Brand;
 
+/// The bytes of a page, of which a block takes one.
+const PAGE: u64 = PAGE_BYTES as u64;
+
+/// Where the gate of a block stands in its page, behind the body.
+const GATE: u64 = PAGE - 1;
+
+/// An open gate; any other byte is a closed one.
 const OPEN: u8 = 0xA5;
 
 /// Writes bodies behind closed gates, from block `at` on, and syncs. A stop at any moment leaves each block standing for
@@ -39,7 +47,7 @@ pub fn write_bodies<D: Disk>(
     laws::seen_as::<D, Brand, Brand>();
     for (i, body) in bodies.iter().enumerate() {
         let page = region.first as u64 + at as u64 + i as u64;
-        disk.write_at(region.chunk, 2048 * page, body)?;
+        disk.write_at(region.chunk, PAGE * page, body)?;
     }
     disk.sync()
 }
@@ -70,7 +78,7 @@ pub fn open_gates<D: Disk>(
     laws::seen_as::<D, Brand, Brand>();
     for k in 0..count {
         let page = region.first as u64 + at as u64 + k as u64;
-        disk.write_at(region.chunk, 2048 * page + 2047, &[OPEN])?;
+        disk.write_at(region.chunk, PAGE * page + GATE, &[OPEN])?;
     }
     disk.sync()
 }
@@ -144,9 +152,9 @@ pub fn read_open<D: Disk>(
     laws::started::<D, Brand>();
     laws::stays::<D, Brand>();
     let page = region.first as u64 + at as u64;
-    disk.read(region.chunk, 2048 * page, into)?;
+    disk.read(region.chunk, PAGE * page, into)?;
     let mut gate = [0];
-    disk.read(region.chunk, 2048 * page + 2047, &mut gate)?;
+    disk.read(region.chunk, PAGE * page + GATE, &mut gate)?;
     Ok(gate[0] == OPEN)
 }
 
@@ -165,7 +173,7 @@ fn close_gate<D: Disk>(disk: &mut D, region: &Region, at: u32) -> Result<(), Dis
     laws::started::<D, Brand>();
     laws::stays::<D, Brand>();
     laws::goes_on::<D, Brand>();
-    let offset = 2048 * (region.first as u64 + at as u64) + 2047;
+    let offset = PAGE * (region.first as u64 + at as u64) + GATE;
     let mut gate = [0];
     disk.read(region.chunk, offset, &mut gate)?;
     if gate[0] != OPEN {

@@ -3,13 +3,11 @@ ghost use Rattle.std.specs.Prelude.{◌≡◌, ◌<◌, ◌≤◌, ◌+◌, ◌-
 ghost use Rattle.ids_outside.specs.Images.{chunk_of, bytes_of};
 ghost use Rattle.ids_outside.specs.MemoryDisk.{images, nine, put, overlay, overlaid, extended, IsMemoryImage};
 
+use ids_base::numbers::PAGE_BYTES;
 use std::alloc::{AllocError, Global};
 
 // The chunks of a disk.
 pub const CHUNKS: usize = 9;
-
-// The bytes of a page.
-pub const PAGE: usize = 2048;
 
 /// Whether a disk in memory may have this image: at most nine chunks, each of whole pages, whose number has 32 bits.
 pub fn is_image(image: &Vec<Vec<u8>>) -> bool
@@ -20,8 +18,8 @@ pub fn is_image(image: &Vec<Vec<u8>>) -> bool
         return false;
     }
     for chunk in image {
-        let count = chunk.len() / PAGE;
-        if chunk.len() != PAGE * count {
+        let count = chunk.len() / PAGE_BYTES;
+        if chunk.len() != PAGE_BYTES * count {
             return false;
         }
         if count > u32::MAX as usize {
@@ -37,7 +35,7 @@ pub fn zeros(alloc: Global, pages: &[u32]) -> Result<Vec<Vec<u8>>, AllocError>
 {
     let mut chunks = Vec::new(alloc);
     for count in pages {
-        chunks.push(vec![in alloc; 0; PAGE * *count as usize]?)?;
+        chunks.push(vec![in alloc; 0; PAGE_BYTES * *count as usize]?)?;
     }
     Ok(chunks)
 }
@@ -132,7 +130,7 @@ pub fn extend(
         return Ok(());
     }
     let target = &mut image[chunk];
-    let wanted = PAGE * pages as usize;
+    let wanted = PAGE_BYTES * pages as usize;
     if target.len() >= wanted {
         return Ok(());
     }

@@ -3,6 +3,7 @@ ghost use Rattle.std.specs.Prelude.{◌≡◌, ◌<◌, [], ℕ, slice_index};
 ghost use Rattle.ids_outside.specs.Counts.{HasCause};
 
 use crate::{Disk, DiskFault};
+use ids_base::numbers::PAGE_BYTES;
 use std::fs::{File, OpenFile, OpenOptions};
 use std::marker::Model;
 use std::os::unix::fs::FileExt;
@@ -10,7 +11,7 @@ use std::{fs, io};
 
 const CHUNKS: usize = 9;
 
-const PAGE: u64 = 2048;
+const PAGE: u64 = PAGE_BYTES as u64;
 
 const ROOT: &str = "root.chk";
 

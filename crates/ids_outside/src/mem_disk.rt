@@ -7,7 +7,9 @@ use crate::failures::Failures;
 use crate::leave::{Leave, is_next_second, remake, synced_entries};
 use crate::record::{Call, Entry, note, note_write};
 use crate::{Disk, DiskFault, chunks};
-use std::alloc::{AllocError, Global};
+use ids_base::memory::Memory;
+use ids_base::numbers::PAGE_BYTES;
+use std::alloc::Global;
 
 /// A disk in memory. It keeps what it had at first and each call since, so that it tells what a stop could have left at
 /// each moment. A call for whose record there is no memory fails.
@@ -38,8 +40,9 @@ impl MemDisk {
     ghost use Rattle.ids_outside.specs.Held.{IsFresh, zero_image, could_leave, image_left_by, moment_of};
 
     /// A disk of zero pages with nothing pending, whose chunks have so many pages; numbers behind the ninth count for
-    /// nothing. Its calls of `read`, `write_at`, `grow` and `sync` with the listed numbers, counted from 1, fail.
-    pub fn new(alloc: Global, pages: &[u32], fails: Vec<u64>) -> Result<MemDisk, AllocError>
+    /// nothing. Its calls of `read`, `write_at`, `grow` and `sync` with the listed numbers, counted from 1, fail. Answers `Memory` only
+    /// for want of memory, which it takes for the pages.
+    pub fn new(alloc: Global, pages: &[u32], fails: Vec<u64>) -> Result<MemDisk, Memory>
         ensures { IfOk result (λ d. IsFresh d (zero_image pages.now) fails.items) }
     {
         let count = pages.len().min(chunks::CHUNKS);
@@ -64,13 +67,8 @@ impl MemDisk {
     }
 
     /// The image that a stop of this kind at this moment leaves, which is one that a stop could have left. Its cost is
-    /// that of the calls up to the moment.
-    pub fn left_at(
-        &self,
-        alloc: Global,
-        moment: u64,
-        leave: Leave,
-    ) -> Result<Vec<Vec<u8>>, AllocError>
+    /// that of the calls up to the moment. Answers `Memory` only for want of memory, which it takes for an image.
+    pub fn left_at(&self, alloc: Global, moment: u64, leave: Leave) -> Result<Vec<Vec<u8>>, Memory>
         requires { moment ≤ moment_of self.now }
         ensures may { IfOk result (λ image. could_leave self.now moment (images image.items)) }
         ensures left { IfOk result (λ image. images image.items ≡ image_left_by leave self.now moment) }
@@ -98,7 +96,7 @@ fn first_image(
     image: &Vec<Vec<u8>>,
     first: &Vec<Vec<u8>>,
     started: bool,
-) -> Result<Vec<Vec<u8>>, AllocError>
+) -> Result<Vec<Vec<u8>>, Memory>
     requires few { length image.now.items ≤ 9 }
     requires first_few { length first.now.items ≤ 9 }
     ensures { IfOk result (λ v. images v.items ≡ nine (images (if started then first.now.items else image.now.items))) }
@@ -183,7 +181,7 @@ impl Disk for MemDisk {
             return 0;
         }
         let bytes = &self.image[chunk as usize];
-        (bytes.len() / chunks::PAGE) as u32
+        (bytes.len() / PAGE_BYTES) as u32
     }
 
     fn moment(&self) -> u64 {

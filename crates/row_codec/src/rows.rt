@@ -12,7 +12,7 @@ ghost use Rattle.row_codec.specs.Premises.{IsTextIfAny, HasTexts};
 ghost use Rattle.std.specs.Int.{w32, cast_signed, from_be_bytes};
 
 use crate::pieces::pad;
-use crate::shapes::column_size;
+use crate::shapes::{column_size, row_length};
 use ids_base::chars::Chars;
 use ids_base::list::List;
 use ids_base::memory::Memory;
@@ -20,18 +20,6 @@ use ids_base::row_bytes::RowBytes;
 use ids_base::shape::{Column, Kind, Shape};
 use ids_base::value::{Row, Value};
 use std::alloc::Global;
-
-/// How many bytes a row of these columns has. Linear in the columns.
-pub fn row_length(columns: &[Column]) -> usize
-    requires { shapes.row_length columns.now < 2 ^ 64 }
-    ensures { result ≡ shapes.row_length columns.now }
-{
-    let mut length = 0;
-    for column in columns {
-        length += column_size(column.kind);
-    }
-    length
-}
 
 /// The bytes of a row of the shape. One allocation; linear in the bytes.
 pub fn encode(alloc: Global, shape: &Shape, row: &Row) -> Result<RowBytes, Memory>

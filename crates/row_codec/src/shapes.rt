@@ -1,12 +1,12 @@
-//! What a table's columns have to be.
-ghost use Rattle.std.specs.Prelude.{◌≡◌, ◌≤◌};
+//! What a table's columns have to be, and the length of its rows.
+ghost use Rattle.std.specs.Prelude.{◌≡◌, ◌≤◌, ◌<◌, ◌^◌, ◌&&◌, nat_le};
 ghost use Rattle.ids_base.specs.Shapes as shapes;
 
 use ids_base::name::Name;
 use ids_base::shape::{Column, Kind};
 use std::cmp::Ordering;
 
-/// How many bytes of a row a column of the kind takes.
+/// How many bytes of a row a column of the kind takes. Constant time.
 pub fn column_size(kind: Kind) -> usize
     ensures { result ≡ shapes.size_of kind }
 {
@@ -14,6 +14,33 @@ pub fn column_size(kind: Kind) -> usize
         Kind::Integer => 4,
         Kind::Char(size) => size as usize,
     }
+}
+
+/// How many bytes a row of these columns has. Linear in the columns.
+pub fn row_length(columns: &[Column]) -> usize
+    requires { shapes.row_length columns.now < 2 ^ 64 }
+    ensures { result ≡ shapes.row_length columns.now }
+{
+    let mut length = 0;
+    for column in columns {
+        length += column_size(column.kind);
+    }
+    length
+}
+
+/// Whether a row of these columns has 1 to 800 bytes. Linear in the columns.
+pub fn has_row_length(columns: &[Column]) -> bool
+    ensures { result ≡ (nat_le 1 (shapes.row_length columns.now) && nat_le (shapes.row_length columns.now) 800) }
+{
+    let mut length = 0;
+    for column in columns {
+        let size = column_size(column.kind);
+        if size > 800 - length {
+            return false;
+        }
+        length += size;
+    }
+    1 <= length
 }
 
 /// Whether a table can have these columns. Looks at each pair of at most 16 columns.
@@ -55,7 +82,8 @@ fn has_column(columns: &[Column], name: &Name) -> bool
     columns.iter().any(|column| same_name(name, &column.name))
 }
 
-fn same_name(a: &Name, b: &Name) -> bool
+/// Whether two names are the same. Linear in the shorter one.
+pub fn same_name(a: &Name, b: &Name) -> bool
     ensures { result ≡ shapes.same_name a.now b.now }
 {
     a.cmp(b) == Ordering::Equal

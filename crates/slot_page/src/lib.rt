@@ -10,5 +10,5 @@ mod reading;
 #[cfg(test)]
 mod tests;
 
+pub use ids_base::numbers::PAGE_BYTES;
 pub use page::Page;
-pub use reading::PAGE_BYTES;

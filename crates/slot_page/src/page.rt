@@ -16,8 +16,8 @@ ghost use Rattle.ids_base.specs.RowIds.{slot_count};
 ghost use Rattle.slot_page.specs.Pages.{AreBytes, slot_bytes};
 ghost use Rattle.std.specs.Option.{option_copied, ForSome};
 
-use crate::reading::{HEAD_BYTES, PAGE_BYTES, is_page, length_in, owner_in};
-use ids_base::numbers::TableNo;
+use crate::reading::{HEAD_BYTES, is_page, length_in, owner_in};
+use ids_base::numbers::{PAGE_BYTES, TableNo};
 use ids_base::row_id::slots_per_page;
 use std::marker::Model;
 

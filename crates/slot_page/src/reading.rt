@@ -3,20 +3,11 @@ ghost use Rattle.std.specs.Prelude.{◌≡◌, ◌≤◌, ◌+◌, ◌*◌, ◌�
 ghost use Rattle.slot_page.specs.Reading.{owner_of, length_of, IsPageBytes};
 ghost use Rattle.slot_page.specs.Checks.{are_zero, is_slot, are_slots};
 
-use ids_base::numbers::TableNo;
+use ids_base::numbers::{CATALOGUE, FIRST_TABLE, PAGE_BYTES, TableNo};
 use ids_base::row_id::slots_per_page;
-
-/// How many bytes a page has.
-pub const PAGE_BYTES: usize = 2048;
 
 /// How many bytes stand before the first slot.
 pub const HEAD_BYTES: usize = 8;
-
-/// The number of the catalogue's table.
-const CATALOGUE: TableNo = 1;
-
-/// The least number of any other table.
-const FIRST_TABLE: TableNo = 100;
 
 /// Whether the bytes are a page. Looks at each byte once at most.
 pub fn is_page(bytes: &[u8; PAGE_BYTES]) -> bool
