@@ -2,6 +2,8 @@ pub mod Events
 pub mod Firsts
 pub mod Kept
 pub mod Laid
+pub mod Least
+pub mod Orders
 pub mod Placed
 pub mod Shown
 pub mod Slotted

@@ -7,8 +7,9 @@ ghost use Rattle.link_lists.specs.Lists.{list_at, home_at, list_count, id_count,
 ghost use Rattle.thread_queues.specs.Laid.{bucket_of, bucket_put, IsBucketed};
 
 use crate::event::{Event, Waiter};
+use ids_base::memory::Memory;
 use link_lists::Lists;
-use std::alloc::{AllocError, Global};
+use std::alloc::Global;
 
 /// The queue of the threads that wait.
 pub const WAITS: u32 = 4;
@@ -23,13 +24,13 @@ const NUMBERED: u32 = 127;
 const MOST: u32 = 1073741824;
 
 /// Buckets and no place.
-pub fn none(alloc: Global) -> Result<Lists, AllocError>
+pub fn none(alloc: Global) -> Result<Lists, Memory>
     ensures wide { IfOk result (λ bu. 7 < list_count bu) }
     ensures no_places { IfOk result (λ bu. id_count bu ≡ 0) }
     ensures empty { IfOk result (λ bu. (b : ℕ) → list_at bu b ≡ []) }
     ensures sound { IfOk result (λ bu. IsSound bu) }
 {
-    Lists::new(alloc, UNNUMBERED + NUMBERED)
+    Ok(Lists::new(alloc, UNNUMBERED + NUMBERED)?)
 }
 
 /// The bucket of an event, where there are so many. Takes constant time.
@@ -97,7 +98,7 @@ pub fn add_place(
     buckets: &mut Lists,
     queues: &Lists,
     blocks: &[Waiter],
-) -> Result<(), AllocError>
+) -> Result<(), Memory>
     requires bucketed { IsBucketed queues.now buckets.old blocks.now }
     requires queues { 4 < list_count queues.now }
     requires places { (x : ℕ) → has x (list_at queues.now 4) ≡ true → x < id_count buckets.old }
@@ -117,7 +118,7 @@ fn widen(
     buckets: &mut Lists,
     queues: &Lists,
     blocks: &[Waiter],
-) -> Result<(), AllocError>
+) -> Result<(), Memory>
     requires bucketed { IsBucketed queues.now buckets.old blocks.now }
     requires queues { 4 < list_count queues.now }
     requires places { (x : ℕ) → has x (list_at queues.now 4) ≡ true → x < id_count buckets.old }
@@ -132,7 +133,7 @@ fn widen(
         return Ok(());
     }
     if count > MOST {
-        return Err(AllocError);
+        return Err(Memory);
     }
     let wider = UNNUMBERED + 2 * (count - UNNUMBERED) + 1;
     *buckets = filled(alloc, wider, places, queues, blocks)?;
@@ -146,7 +147,7 @@ fn filled(
     places: u32,
     queues: &Lists,
     blocks: &[Waiter],
-) -> Result<Lists, AllocError>
+) -> Result<Lists, Memory>
     requires wide { 7 < count }
     requires many { places + 7 ≤ count }
     requires queues { 4 < list_count queues.now }
@@ -167,7 +168,7 @@ fn filled(
 }
 
 /// So many empty buckets, and places.
-fn with_places(alloc: Global, count: u32, places: u32) -> Result<Lists, AllocError>
+fn with_places(alloc: Global, count: u32, places: u32) -> Result<Lists, Memory>
     ensures count { IfOk result (λ bu. list_count bu ≡ count) }
     ensures places { IfOk result (λ bu. id_count bu ≡ places) }
     ensures empty { IfOk result (λ bu. (b : ℕ) → list_at bu b ≡ []) }

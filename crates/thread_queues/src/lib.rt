@@ -8,10 +8,11 @@ mod buckets;
 mod due;
 pub mod event;
 mod limits;
+mod order;
 pub mod places;
 mod slots;
 #[cfg(test)]
 mod tests;
 
-pub use event::Event;
+pub use event::{Event, Place};
 pub use places::Threads;

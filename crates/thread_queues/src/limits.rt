@@ -8,7 +8,8 @@ ghost use Rattle.thread_queues.specs.Tree.{first_at, first_below, IsTree};
 
 use crate::due;
 use crate::event::Due;
-use std::alloc::{AllocError, Global};
+use ids_base::memory::Memory;
+use std::alloc::Global;
 use std::marker::Model;
 
 /// The most places.
@@ -51,12 +52,12 @@ impl Limits {
     }
 
     /// One place more, with no limit. Where there is no memory, all is as it was.
-    pub fn add(&mut self) -> Result<(), AllocError>
+    pub fn add(&mut self) -> Result<(), Memory>
         ensures ok { OnOk result (self.new ≡ self.old ++ None ∷ []) }
         ensures err { OnErr result (self.new ≡ self.old) }
     {
         if self.nodes.len() >= MOST {
-            return Err(AllocError);
+            return Err(Memory);
         }
         self.nodes.push(Node {
             own: None,

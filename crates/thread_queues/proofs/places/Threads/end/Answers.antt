@@ -42,6 +42,7 @@ invariant_of-self c =
     record {
       counted = subst IsCounted (sym e) (counted-ended p c.args.vp t c.self.invariant.counted at runs.0);
       six = ap (λ (s : Slotted). length s.queues) c.remove.ensures ∙ c.self.invariant.six;
+      few = c.self.invariant.few;
     }
 
 pub returns-in-Some : goal.returns-in-Some

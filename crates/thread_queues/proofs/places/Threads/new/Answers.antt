@@ -12,4 +12,5 @@ invariant_of-result c =
     record {
       counted = counted-idle _ (ap (λ (s : Slotted). s.live) none) (ap ready_of none) (ap (λ (s : Slotted). queue_at s 4) none) (ap (λ (s : Slotted). map sleeper (queue_at s 5)) none) (c.loop.invariant.empty ∙ ap (λ (n : ℕ). replicate {A = Option ℕ} n None) whole);
       six = ap (λ (s : Slotted). length s.queues) none;
+      few = c.requires;
     }

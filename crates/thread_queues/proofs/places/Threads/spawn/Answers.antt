@@ -33,6 +33,7 @@ invariant_of-self-2 c =
     record {
       counted = subst IsCounted (sym e) (counted-spawned (placed_of a) t c.args.class new c.self.invariant.counted);
       six = ap (λ (s : Slotted). length s.queues) slots ∙ length-set a.slots.queues _ _ ∙ c.self.invariant.six;
+      few = c.self.invariant.few;
     }
 
 pub returns-clause-spawned : goal.returns-clause-spawned
