@@ -54,7 +54,7 @@ module _ (al qs bu : Lists) (bs : List Waiter) (li : List (Option Due)) (id_of :
 
   -- where the place of a thread that lives is found
   pub live-places : (x : ℕ) → home_at al x ≡ Some 0 → (x < id_count qs) × (x < id_count bu) × (x < length bs) × (x < length li)
-  live-places x home = let t = (laid.alive_sound.there 0 x home).1 in (omega (arith, t, laid.queues_room), omega (arith, t, laid.buckets_room), omega (arith, t, laid.blocks_room), omega (arith, t, laid.limits_room))
+  live-places x home = let t = (laid.alive_sound.there 0 x home).1 in (omega (arith, t, laid.room.queue_room.0), omega (arith, t, laid.room.bucket_room.0), omega (arith, t, laid.room.block_room.0), omega (arith, t, laid.room.limit_room.0))
 
   -- where the place of a thread in a queue is found, and that of one in a bucket
   pub queue-places : (q x : ℕ) → has x (list_at qs q) ≡ true → (x < id_count bu) × (x < length bs)

@@ -12,7 +12,7 @@ use Rattle.thread_queues.specs.Placed.{without_first}
 use Rattle.thread_queues.specs.Slotted.{limit_in, queue_at, taken_from}
 use Rattle.thread_queues.specs.Laid.{block_at, number_at, bucket_of, slotted, IsBucketed, IsLaid}
 use Rattle.thread_queues.proofs.Ids.{filter-without, without-first-map, find-map}
-use Rattle.thread_queues.proofs.Moving.{taken-lists, map-lists, same-at}
+use Rattle.thread_queues.proofs.Moving.{same-room, taken-lists, map-lists, same-at}
 
 -- an id was taken out of the list that it was in
 pub record IsUnlinked (old new : Lists) (l x : ℕ) : Type 0 where
@@ -96,7 +96,7 @@ module _ (al qs bu : Lists) (bs : List Waiter) (li : List (Option Due)) (id_of :
   take-limited : (y : ℕ) → due_at (set li x None) y ≡ limit_in (home_at qs' y) (block_at bs y)
   take-limited y = elim (cases_eq y x) [
     | inl e ↦ subst (λ (z : ℕ). due_at (set li x None) z ≡ limit_in (home_at qs' z) (block_at bs z)) (sym e)
-        (get_or-set_same li x None None (omega (arith, (laid.alive_sound.there 0 x (laid.lives x q here)).1, laid.limits_room)) ∙ ap (λ (o : Option ℕ). limit_in o (block_at bs x)) (sym out.home.this))
+        (get_or-set_same li x None None (omega (arith, (laid.alive_sound.there 0 x (laid.lives x q here)).1, laid.room.limit_room.0)) ∙ ap (λ (o : Option ℕ). limit_in o (block_at bs x)) (sym out.home.this))
     | inr ne ↦ get_or-set_other li x y None None ne ∙ laid.limited y ∙ ap (λ (o : Option ℕ). limit_in o (block_at bs y)) (sym (out.home.others y ne))
   ]
 
@@ -113,10 +113,7 @@ module _ (al qs bu : Lists) (bs : List Waiter) (li : List (Option Due)) (id_of :
     queues_sound = out.sound;
     alive_count = laid.alive_count;
     queue_count = out.counts.lists ∙ laid.queue_count;
-    queues_room = omega (arith, laid.queues_room, out.counts.ids);
-    buckets_room = omega (arith, laid.buckets_room, gone.counts.ids);
-    blocks_room = laid.blocks_room;
-    limits_room = omega (arith, laid.limits_room, length-set {A = Option Due} li x None);
+    room = same-room al qs bu al qs' bu' (length bs) (length bs) (length li) (length (set li x None)) laid.room refl out.counts.ids gone.counts.ids refl (length-set {A = Option Due} li x None) refl;
     lives = λ y p e. laid.lives y p (still y p e).0;
     found = laid.found;
     bucketed = take-bucketed;

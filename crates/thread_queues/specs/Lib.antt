@@ -1,5 +1,6 @@
 pub mod Events
 pub mod Firsts
+pub mod Grown
 pub mod Kept
 pub mod Laid
 pub mod Least

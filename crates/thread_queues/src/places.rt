@@ -6,6 +6,7 @@ ghost use Rattle.std.specs.Prelude.{◌≡◌, ◌≢◌, ◌==◌, ◌<◌, ◌
 ghost use Rattle.std.specs.List.{flat_map};
 ghost use Rattle.ids_base.specs.Classes.{class_of};
 ghost use Rattle.thread_queues.specs.Events.{is_event, is_event_before};
+ghost use Rattle.thread_queues.specs.Laid.{most_threads};
 ghost use Rattle.thread_queues.specs.Least.{behind, IsLeast};
 ghost use Rattle.thread_queues.specs.Placed.{times as count, queue, queue_of, waiter_of, sleeper_of, running_at, thread_at, first_waiter, idle, spawned, dispatched, yielded, waiting, sleeping, ended, woken_one, woken_waiter, roused, woken, IsAt, IsStill, IsPlaced};
 ghost use Rattle.thread_queues.specs.Shown.{class_queue, sleeper};
@@ -29,6 +30,7 @@ const SLEEPS: u32 = 5;
 pub struct Threads {
     cpu: u32,
     tick: u64,
+    live: u32,
     slots: Slots,
     running: Vec<Option<ThreadNo>>,
 }
@@ -46,7 +48,8 @@ impl Model for Threads {
 }
 
 impl Threads {
-    /// No thread, tick 0, and processors that run nothing: `cpu` of class CPU, then one each of LIO, PIO and AIO.
+    /// No thread, tick 0, and processors that run nothing: `cpu` of class CPU, then one each of LIO, PIO and AIO. Answers `Memory` where
+    /// there is none for them. Takes time in proportion to the processors.
     pub fn new(alloc: Global, cpu: u32) -> Result<Self, Memory>
         requires { cpu ≤ 16 }
         ensures { IfOk result (λ t. t ≡ idle cpu) }
@@ -59,6 +62,7 @@ impl Threads {
         Ok(Self {
             cpu,
             tick: 0,
+            live: 0,
             slots,
             running,
         })
@@ -85,6 +89,13 @@ impl Threads {
         ensures { result ≡ running_at self.now vp }
     {
         self.running[vp as usize]
+    }
+
+    /// How many threads live. Takes constant time.
+    pub fn live(&self) -> u32
+        ensures { result ≡ length self.now.live }
+    {
+        self.live
     }
 
     /// Whether a thread lives: it was spawned and has not ended. Takes constant time.
@@ -208,13 +219,15 @@ impl Threads {
     ///
     /// Takes room for it in every queue, so that no later call takes any. Tables grow to about twice their size now and then, and with
     /// them the buckets by events: a call takes the logarithm on average over many, and at worst time in proportion to the most threads
-    /// that lived at once. For want of memory nothing changes.
+    /// that lived at once. Answers `Memory` where there is none, and nothing changes then.
     pub fn spawn(&mut self, thread: ThreadNo, class: Class) -> Result<(), Memory>
-        requires { count thread self.old.live ≡ 0 }
+        requires new { count thread self.old.live ≡ 0 }
+        requires few { length self.old.live < most_threads }
         ensures spawned { OnOk result (self.new ≡ spawned self.old thread class) }
         ensures unchanged { OnErr result (self.new ≡ self.old) }
     {
         self.slots.add(thread)?;
+        self.live += 1;
         self.slots
             .put(ready_queue(class), ready_waiter(thread, class));
         Ok(())
@@ -303,6 +316,7 @@ impl Threads {
         if let Some(thread) = self.running[vp as usize] {
             self.running[vp as usize] = None;
             self.slots.remove(thread);
+            self.live -= 1;
         }
     }
 

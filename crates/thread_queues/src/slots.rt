@@ -7,12 +7,13 @@ ghost use Rattle.link_lists.specs.Lists.{list_at, list_count, has};
 ghost use Rattle.thread_queues.specs.Events.{is_event};
 ghost use Rattle.thread_queues.specs.Placed.{times};
 ghost use Rattle.thread_queues.specs.Slotted.{queue_at, threads_of, nothing, put_in, taken_from, popped_from, with_thread, without_thread, limit_in, IsApart, IsFirstOf};
-ghost use Rattle.thread_queues.specs.Laid.{block_at};
+ghost use Rattle.thread_queues.specs.Laid.{most_threads, block_at};
 ghost use Rattle.thread_queues.specs.Least.{behind, IsLeast};
 ghost use Rattle.thread_queues.specs.Orders.{comes_before, counts};
 
 use crate::buckets::{self, WAITS};
 use crate::event::{Due, Event, Waiter, same_event};
+use crate::growth::{self, FREE};
 use crate::limits::Limits;
 use crate::order::{self, Order};
 use ids_base::class::Class;
@@ -23,10 +24,8 @@ use std::alloc::Global;
 use std::collections::HashMap;
 use std::marker::Model;
 
-/// The places of live threads, and those that no thread has.
+/// The places of live threads.
 const LIVE: u32 = 0;
-
-const FREE: u32 = 1;
 
 /// How many queues there are.
 const QUEUES: u32 = 6;
@@ -76,18 +75,21 @@ impl Slots {
         })
     }
 
-    /// A thread that lives, in no queue. Where there is no memory, all is as it was.
+    /// A thread that lives, in no queue. Answers `Memory` where there is none, and all is as it was.
     pub fn add(&mut self, thread: ThreadNo) -> Result<(), Memory>
-        requires { times thread self.old.live ≡ 0 }
+        requires new { times thread self.old.live ≡ 0 }
+        requires few { length self.old.live < most_threads }
         ensures added { OnOk result (self.new ≡ with_thread self.old thread) }
         ensures unchanged { OnErr result (self.new ≡ self.old) }
     {
-        if self.alive.front(FREE).is_none() {
-            self.grow()?;
-        }
-        let Some(id) = self.alive.front(FREE) else {
-            return Err(Memory);
-        };
+        let id = growth::free_place(
+            self.alloc,
+            &mut self.alive,
+            &mut self.queues,
+            &mut self.buckets,
+            &mut self.blocks,
+            &mut self.limits,
+        )?;
         self.numbers.insert(thread, id)?;
         self.alive.unlink(id);
         self.alive.push_back(LIVE, id);
@@ -97,24 +99,6 @@ impl Slots {
             class: Class::Cpu,
             due: None,
         };
-        Ok(())
-    }
-
-    /// One place more that no thread has.
-    fn grow(&mut self) -> Result<(), Memory>
-        ensures { self.new ≡ self.old }
-    {
-        self.blocks.push(Waiter {
-            event: Event::Lock,
-            thread: 0,
-            class: Class::Cpu,
-            due: None,
-        })?;
-        self.limits.add()?;
-        self.queues.add_id()?;
-        buckets::add_place(self.alloc, &mut self.buckets, &self.queues, &self.blocks)?;
-        let id = self.alive.add_id()?;
-        self.alive.push_back(FREE, id);
         Ok(())
     }
 

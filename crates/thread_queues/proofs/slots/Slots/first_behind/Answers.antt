@@ -15,7 +15,7 @@ returns c =
     let q = c.args.queue in
     let first = first_from c.args.order c.args.from None in
     let e : c.first_behind.result ≡ first (queue_at c.args.self.now q) = c.first_behind.ensures
-        ∙ ap (λ (ws : List Waiter). first (map (block_at ws) (list_at a.queues q))) c.deref.ensures.value
-        ∙ ap first (sym (map-lists (map (block_at a.blocks.items)) a.queues.lists q refl))
-        ∙ ap (λ (s : Slotted). first (queue_at s q)) c.self.view_is in
+    ∙ ap (λ (ws : List Waiter). first (map (block_at ws) (list_at a.queues q))) c.deref.ensures.value
+    ∙ ap first (sym (map-lists (map (block_at a.blocks.items)) a.queues.lists q refl))
+    ∙ ap (λ (s : Slotted). first (queue_at s q)) c.self.view_is in
     subst (IsLeast (comes_before c.args.order) (behind (comes_before c.args.order) c.args.from (queue_at c.args.self.now q))) (sym e) (least-found c.args.order c.args.from (queue_at c.args.self.now q))
