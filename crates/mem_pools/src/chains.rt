@@ -5,7 +5,8 @@
 ghost use Rattle.std.specs.Prelude.{◌≡◌, ◌≢◌, ◌<◌, ◌≤◌, ◌+◌, ◌-◌, ◌∷◌, length, drop, slice_index, IfOk, ℕ};
 ghost use Rattle.mem_pools.specs.Linked.{list_at, all_free, poured, EachOnce};
 
-use std::alloc::{AllocError, Global};
+use ids_base::memory::Memory;
+use std::alloc::Global;
 use std::marker::Model;
 
 /// Where a chain begins and ends.
@@ -37,8 +38,9 @@ impl Model for Chains {
 }
 
 impl Chains {
-    /// The chains of `blocks` blocks: all of them in the first chain, in order, and `others` empty ones behind it.
-    pub fn new(alloc: Global, blocks: u32, others: u32) -> Result<Self, AllocError>
+    /// The chains of `blocks` blocks: all of them in the first chain, in order, and `others` empty ones behind it. Answers
+    /// `Memory` where there is none for the tables.
+    pub fn new(alloc: Global, blocks: u32, others: u32) -> Result<Self, Memory>
         ensures made { IfOk result (λ c. c ≡ all_free blocks others) }
         ensures owned { IfOk result EachOnce }
     {

@@ -4,8 +4,9 @@ ghost use Rattle.std.specs.List.{count_by};
 ghost use Rattle.mem_pools.specs.Pooled.{pool_at, owner_of, chain_of, bytes_of, standing, blocks_for, unused, with_pool, wanted, appended, without_pool, IsOwned, HasBlocks};
 
 use crate::chains::Chains;
+use ids_base::memory::Memory;
 use ids_base::numbers::ThreadNo;
-use std::alloc::{AllocError, Global};
+use std::alloc::Global;
 use std::marker::Model;
 
 /// The chain of the free blocks. A pool's chain has the pool's number and one.
@@ -50,8 +51,9 @@ impl Model for Pools {
 impl Pools {
     /// All of `blocks` blocks free, and room for `pools` pools at once.
     ///
-    /// Takes the memory of all blocks, and time in proportion to it. Every later call but `bytes` takes none.
-    pub fn new(alloc: Global, blocks: u32, pools: u32) -> Result<Self, AllocError>
+    /// Takes the memory of all blocks, and time in proportion to it; answers `Memory` where there is not so much. Every later
+    /// call but `bytes` takes none.
+    pub fn new(alloc: Global, blocks: u32, pools: u32) -> Result<Self, Memory>
         ensures { IfOk result (λ p. p ≡ unused blocks pools) }
     {
         let chains = Chains::new(alloc, blocks, pools)?;
@@ -218,8 +220,9 @@ impl Pools {
         });
     }
 
-    /// The bytes appended to a pool, in order. Takes time and memory in proportion to the pool's blocks.
-    pub fn bytes(&self, alloc: Global, pool: u32) -> Result<Vec<u8>, AllocError>
+    /// The bytes appended to a pool, in order. Takes time and memory in proportion to the pool's blocks, and answers `Memory`
+    /// where there is none for them.
+    pub fn bytes(&self, alloc: Global, pool: u32) -> Result<Vec<u8>, Memory>
         requires { IsSome (pool_at self.now pool) }
         ensures { IfOk result (λ v. v.items ≡ bytes_of self.now pool) }
     {
@@ -360,7 +363,7 @@ mod tests {
         pools: &mut Pools,
         plain: &mut Vec<Plain>,
         owner: ThreadNo,
-    ) -> Result<(), AllocError> {
+    ) -> Result<(), Memory> {
         assert_eq!(rt; pools.standing() as usize, plain.len());
         if pools.standing() == pools.limit() {
             return Ok(());
@@ -390,7 +393,7 @@ mod tests {
         pools: &mut Pools,
         plain: &mut Vec<Plain>,
         number: u32,
-    ) -> Result<(), AllocError> {
+    ) -> Result<(), Memory> {
         if !plain.is_empty() {
             let ended = plain.swap_remove(number as usize % plain.len());
             compare(rt, alloc, pools, &ended)?;
@@ -412,7 +415,7 @@ mod tests {
         pools: &mut Pools,
         plain: &mut Vec<Plain>,
         number: u32,
-    ) -> Result<(), AllocError> {
+    ) -> Result<(), Memory> {
         let free = 16u64.saturating_sub(blocks_of(plain));
         if plain.is_empty() {
             return Ok(());
@@ -443,12 +446,7 @@ mod tests {
     }
 
     /// A pool has the same owner and bytes as its plain list.
-    fn compare(
-        rt: &impl Abort,
-        alloc: Global,
-        pools: &Pools,
-        plain: &Plain,
-    ) -> Result<(), AllocError> {
+    fn compare(rt: &impl Abort, alloc: Global, pools: &Pools, plain: &Plain) -> Result<(), Memory> {
         assert!(rt; pools.stands(plain.pool));
         assert_eq!(rt; pools.owner(plain.pool), plain.owner);
         assert!(rt; pools.bytes(alloc, plain.pool)? == plain.bytes);
@@ -460,7 +458,7 @@ mod tests {
     }
 
     /// Up to some thousand bytes that hang on a number.
-    fn some_bytes(alloc: Global, number: u32) -> Result<Vec<u8>, AllocError> {
+    fn some_bytes(alloc: Global, number: u32) -> Result<Vec<u8>, Memory> {
         let mut bytes = Vec::new(alloc);
         for k in 0..number % 5000 {
             bytes.push((k % 251) as u8 ^ (number % 256) as u8)?;

@@ -1,6 +1,6 @@
 -- The buckets of the threads that wait: what is found in one is found among all of them, and how buckets change.
-use Rattle.std.proofs.Common.{◌≡◌, ◌∙◌, ℕ, ◌+◌, ◌-◌, ◌%◌, ◌==◌, Bool, true, false, cond, List, [], ◌∷◌, ◌++◌, map, refl, ap, sym, subst, inl, inr, append_assoc, Option, Some, None}
-use Rattle.std.specs.List.{filter, find}
+use Rattle.std.proofs.Common.{◌≡◌, ◌∙◌, ℕ, ◌+◌, ◌-◌, ◌%◌, ◌==◌, Bool, true, false, cond, List, [], ◌∷◌, ◌++◌, map, refl, ap, sym, subst, inl, inr, append_assoc, Option, Some, None, option_map}
+use Rattle.std.specs.List.{filter, find, slice_get}
 use Rattle.std.proofs.lemmas.Bool.{eqb-true, cases_eq, eq-eqb, ne_eqb}
 use Rattle.link_lists.specs.Lists.{Lists, list_at, home_at, list_count, ListBecomes, has, IsSound}
 use Rattle.link_lists.proofs.Members.{has-cons, has-first, has-later}
@@ -9,6 +9,8 @@ use Rattle.thread_queues.specs.declared.event.Event.TheVariants.{Lock, Latch, Pa
 use Rattle.thread_queues.specs.declared.event.Waiter.{Waiter}
 use Rattle.thread_queues.specs.Events.{is_event}
 use Rattle.thread_queues.specs.Laid.{block_at, bucket_of, IsBucketed}
+use Rattle.thread_queues.specs.Orders.{counts}
+use Rattle.thread_queues.specs.Slotted.{threads_of}
 use Rattle.thread_queues.proofs.Ids.{filter-same}
 
 -- one event has one bucket
@@ -24,20 +26,7 @@ same-bucket n Critical Critical h = refl
 same-bucket n Cleaning Cleaning h = refl
 same-bucket n d e h = cc
 
--- a test that implies the one of a filter finds the same after it
-pub find-filter : {X : Type 0} (f : ℕ → X) (p : X → Bool) (q : ℕ → Bool) (xs : List ℕ) → ((x : ℕ) → p (f x) ≡ true → q x ≡ true) → find p (map f (filter q xs)) ≡ find p (map f xs)
-find-filter f p q [] h = refl
-find-filter {X} f p q (x ∷ xs) h = by-tests (q x) (p (f x)) refl refl (find-filter f p q xs h)
-  where
-    by-tests : (b c : Bool) → q x ≡ b → p (f x) ≡ c → find p (map f (filter q xs)) ≡ find p (map f xs) → find p (map f (cond (q x) (x ∷ filter q xs) (filter q xs))) ≡ cond (p (f x)) (Some (f x)) (find p (map f xs))
-    by-tests true c e d rest = ap (λ (b : Bool). find p (map f (cond b (x ∷ filter q xs) (filter q xs)))) e ∙ ap (λ (o : Option X). cond (p (f x)) (Some (f x)) o) rest
-    by-tests false true e d rest = clash (sym e ∙ h x d)
-      where
-        clash : {A : Type 0} → false ≡ true → A
-        clash k = cc
-    by-tests false false e d rest = ap (λ (b : Bool). find p (map f (cond b (x ∷ filter q xs) (filter q xs)))) e ∙ rest ∙ sym (ap (λ (b : Bool). cond b (Some (f x)) (find p (map f xs))) d)
-
--- the same of all that pass the test
+-- a test that implies the one of a filter lets the same pass after it
 pub filter-filter : {X : Type 0} (f : ℕ → X) (p : X → Bool) (q : ℕ → Bool) (xs : List ℕ) → ((x : ℕ) → p (f x) ≡ true → q x ≡ true) → filter p (map f (filter q xs)) ≡ filter p (map f xs)
 filter-filter f p q [] h = refl
 filter-filter {X} f p q (x ∷ xs) h = by-tests (q x) (p (f x)) refl refl (filter-filter f p q xs h)
@@ -49,6 +38,20 @@ filter-filter {X} f p q (x ∷ xs) h = by-tests (q x) (p (f x)) refl refl (filte
         clash : {A : Type 0} → false ≡ true → A
         clash k = cc
     by-tests false false e d rest = ap (λ (b : Bool). filter p (map f (cond b (x ∷ filter q xs) (filter q xs)))) e ∙ rest ∙ sym (ap (λ (b : Bool). cond b (f x ∷ filter p (map f xs)) (filter p (map f xs))) d)
+
+-- where no event is named, all count
+pub all-count : (ws : List Waiter) → filter (counts None) ws ≡ ws
+all-count [] = refl
+all-count (w ∷ ws) = ap (λ (vs : List Waiter). w ∷ vs) (all-count ws)
+
+-- the first of those that pass is the one that is found
+pub first-passing : (p : Waiter → Bool) (ws : List Waiter) → slice_get (threads_of (filter p ws)) 0 ≡ option_map (λ w. w.thread) (find p ws)
+first-passing p [] = refl
+first-passing p (w ∷ ws) = by-test (p w) (first-passing p ws)
+  where
+    by-test : (b : Bool) → slice_get (threads_of (filter p ws)) 0 ≡ option_map (λ w. w.thread) (find p ws) → slice_get (threads_of (cond b (w ∷ filter p ws) (filter p ws))) 0 ≡ option_map (λ w. w.thread) (cond b (Some w) (find p ws))
+    by-test true rest = refl
+    by-test false rest = rest
 
 -- what passes a test was there
 pub filter-has : (p : ℕ → Bool) (x : ℕ) (xs : List ℕ) → has x (filter p xs) ≡ true → has x xs ≡ true

@@ -81,6 +81,9 @@ number-gone f ad (x ∷ xs) t h = elim (eqb_tells x t) [
       omega (arith, left, later, ad.app (x ∷ []) xs, ad.app (x ∷ []) (without_first (λ y. y == t) xs))
 ]
 
+pub one-gone : (xs : List ℕ) (t : ℕ) → 0 < times t xs → length (without_first (λ x. x == t) xs) + 1 ≡ length xs
+one-gone xs t h = number-gone length Additive-length xs t h
+
 pub counted-ended : (p : Placed) (vp t : ℕ) → IsCounted p → running_at p vp ≡ Some t → 0 < times t p.live → IsCounted (record (stopped p vp) { live = without_first (λ x. x == t) p.live })
 counted-ended p vp t c e live = record {
   once = λ n. omega (arith, c.once n, number-gone (times n) (Additive-times n) p.live t live);

@@ -1,12 +1,13 @@
 -- The first of all limits is the due thread that is woken first, where its tick has come.
-use Rattle.std.proofs.Common.{◌≡◌, ◌∙◌, ℕ, zero, suc, Bool, true, false, cond, nat_le, List, [], ◌∷◌, ◌++◌, length, map, get_or, refl, ap, sym, subst, arith, ◌⊎◌, inl, inr, Option, Some, None, option_map, All}
-use Rattle.std.specs.List.{slice_get}
+use Rattle.std.proofs.Common.{◌≡◌, ◌∙◌, ℕ, zero, suc, Bool, true, false, cond, nat_le, nat_lt, List, [], ◌∷◌, ◌++◌, length, map, get_or, refl, ap, sym, subst, arith, ◌⊎◌, inl, inr, Option, Some, None, option_map, All}
+use Rattle.std.specs.List.{slice_get, Contains}
 use Rattle.std.proofs.lemmas.Bool.Decides.{nat_tests}
 use Rattle.std.proofs.lemmas.List.{get_or_past}
-use Rattle.std.proofs.lemmas.List.Elements.{All-nil, All-cons, All-head, All-tail, All-append, All-filter}
+use Rattle.std.proofs.lemmas.List.Elements.{All-nil, All-cons, All-head, All-tail, All-append, All-filter, All-map, All-weaker}
 use Rattle.thread_queues.specs.declared.event.Waiter.{Waiter}
 use Rattle.thread_queues.specs.declared.event.Due.{Due}
 use Rattle.thread_queues.specs.Firsts.{IsBehind}
+use Rattle.thread_queues.specs.Least.{IsNotBefore, IsLeast}
 use Rattle.thread_queues.specs.Slotted.{Slotted, queue_at, limit_of, limit_in, sleep_limit, IsFirstOf}
 use Rattle.thread_queues.specs.Shown.{sleeper}
 use Rattle.thread_queues.specs.Ticks.{due_by, limits_of_waits, limits_of_sleeps, reached, is_before, first_of}
@@ -126,6 +127,11 @@ sleeps-among d [] k w e is = cc
 sleeps-among d (v ∷ vs) (suc k) w e is = inr (sleeps-among d vs k w e is)
 sleeps-among d (v ∷ vs) zero w e is = inl (ap sleep_limit (some-same e) ∙ is)
 
+contained : (d : Due) (ds : List Due) → IsAmong d ds → Contains (map (λ x. x.tick) ds) d.tick
+contained d [] h = absurd h
+contained d (x ∷ xs) (inl e) = (0, omega arith, ap (λ (y : Due). y.tick) e)
+contained d (x ∷ xs) (inr r) = let k = contained d xs r in (suc k.0, omega (arith, k.1), k.2)
+
 module _ (s : Slotted) (six : length s.queues ≡ 6) (now : ℕ) (first : Option Due) (i : IsFirstOf s first) where
   abbrev limits : List Due
   limits = limits_of_waits (queue_at s 4) ++ limits_of_sleeps (map sleeper (queue_at s 5))
@@ -174,3 +180,20 @@ module _ (s : Slotted) (six : length s.queues ≡ 6) (now : ℕ) (first : Option
     where
       never : All (λ x. ⊥) limits
       never = subst (λ (o : Option Due). All (λ x. IsBehind x o) limits) e all-behind
+
+  -- its tick is the least of all
+  pub first-tick : IsLeast nat_lt (map (λ d. d.tick) limits) (option_map (λ d. d.tick) first)
+  first-tick = by-first first refl
+    where
+      by-first : (o : Option Due) → first ≡ o → IsLeast nat_lt (map (λ d. d.tick) limits) (option_map (λ d. d.tick) o)
+      by-first None e = record {
+        among = tt;
+        least = All-map (IsNotBefore nat_lt None) (λ d. d.tick) limits (subst (λ (o : Option Due). All (λ x. IsBehind x o) limits) e all-behind);
+      }
+      by-first (Some d) e = record {
+        among = contained d limits (among-all d e);
+        least = All-map (IsNotBefore nat_lt (Some d.tick)) (λ d. d.tick) limits (All-weaker (λ x. is_before x d ≡ false) (λ x. nat_lt x.tick d.tick ≡ false) not-less limits (subst (λ (o : Option Due). All (λ x. IsBehind x o) limits) e all-behind));
+      }
+        where
+          not-less : (x : Due) → is_before x d ≡ false → nat_lt x.tick d.tick ≡ false
+          not-less x h = grind (arith, nat_tests)

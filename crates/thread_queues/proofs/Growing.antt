@@ -8,6 +8,7 @@ use Rattle.link_lists.proofs.Members.{has-first}
 use Rattle.thread_queues.specs.declared.event.Due.{Due}
 use Rattle.thread_queues.specs.declared.event.Waiter.{Waiter}
 use Rattle.thread_queues.specs.Firsts.{due_at}
+use Rattle.thread_queues.specs.Grown.{IsMore, HasSameLive, IsGrown}
 use Rattle.thread_queues.specs.Slotted.{limit_in, nothing}
 use Rattle.thread_queues.specs.Laid.{no_waiter, block_at, number_at, bucket_of, slotted, IsBucketed, IsLaid}
 use Rattle.thread_queues.proofs.Bucketing.{still-bucketed}
@@ -17,24 +18,9 @@ use Rattle.thread_queues.proofs.Putting.{IsPushed}
 fun_ext : {A B : Type 0} {f g : A → B} → ((x : A) → f x ≡ g x) → f ≡ g
 fun_ext h = λ i x. h x i
 
--- places more, of which no list has one
-pub record IsMore (old new : Lists) : Type 0 where
-  pub lists : list_count new ≡ list_count old
-  pub ids : id_count old ≤ id_count new
-  pub same : (k : ℕ) → list_at new k ≡ list_at old k
-  pub homes : (x : ℕ) → home_at new x ≡ home_at old x
-  pub sound : IsSound new
-
+-- nothing is added
 pub more-none : (v : Lists) → IsSound v → IsMore v v
 more-none v sound = record { lists = refl; ids = omega arith; same = λ k. refl; homes = λ x. refl; sound = sound }
-
--- the same threads live, at the same places
-pub record HasSameLive (old new : Lists) : Type 0 where
-  pub lists : list_count new ≡ list_count old
-  pub live : list_at new 0 ≡ list_at old 0
-  pub stays : (x : ℕ) → home_at old x ≡ Some 0 → home_at new x ≡ Some 0
-  pub was : (x : ℕ) → home_at new x ≡ Some 0 → home_at old x ≡ Some 0
-  pub sound : IsSound new
 
 pub same-live : (v : Lists) → IsSound v → HasSameLive v v
 same-live v sound = record { lists = refl; live = refl; stays = λ x e. e; was = λ x e. e; sound = sound }
@@ -47,31 +33,27 @@ default-more (x ∷ xs) d zero = refl
 default-more (x ∷ xs) d (suc k) = default-more xs d k
 
 module _ (al qs bu : Lists) (bs : List Waiter) (li : List (Option Due)) (id_of : ℕ → Option ℕ) (laid : IsLaid al qs bu bs li id_of)
-    (al' qs' bu' : Lists) (bs' : List Waiter) (li' : List (Option Due)) (live : HasSameLive al al') (queues : IsMore qs qs')
-    (blocks : (x : ℕ) → block_at bs' x ≡ block_at bs x) (limits : (x : ℕ) → due_at li' x ≡ due_at li x) where
+    (al' qs' bu' : Lists) (bs' : List Waiter) (li' : List (Option Due)) (grown : IsGrown al qs bs li al' qs' bu' bs' li') where
   pub grown-shown : slotted al' qs' bs' ≡ slotted al qs bs
   grown-shown =
-      ap (λ (f : ℕ → Waiter). record { live = map (λ x. (f x).thread) (list_at al' 0); queues = map (λ ids. map f ids) qs'.lists }) (fun_ext blocks)
-      ∙ ap (λ (ids : List ℕ). record { live = map (number_at bs) ids; queues = map (λ ids. map (block_at bs) ids) qs'.lists }) live.live
-      ∙ ap (λ (ls : List (List ℕ)). record { live = map (number_at bs) (list_at al 0); queues = map (λ ids. map (block_at bs) ids) ls }) (same-at qs'.lists qs.lists queues.lists queues.same)
+      ap (λ (f : ℕ → Waiter). record { live = map (λ x. (f x).thread) (list_at al' 0); queues = map (λ ids. map f ids) qs'.lists }) (fun_ext grown.same_blocks)
+      ∙ ap (λ (ids : List ℕ). record { live = map (number_at bs) ids; queues = map (λ ids. map (block_at bs) ids) qs'.lists }) grown.live.live
+      ∙ ap (λ (ls : List (List ℕ)). record { live = map (number_at bs) (list_at al 0); queues = map (λ ids. map (block_at bs) ids) ls }) (same-at qs'.lists qs.lists grown.more.lists grown.more.same)
 
-  pub grown-laid : id_count al' ≤ id_count qs' → id_count al' ≤ id_count bu' → id_count al' ≤ length bs' → id_count al' ≤ length li' → IsBucketed qs' bu' bs' → IsLaid al' qs' bu' bs' li' id_of
-  grown-laid rq rb rs rl bucketed = record {
-    alive_sound = live.sound;
-    queues_sound = queues.sound;
-    alive_count = live.lists ∙ laid.alive_count;
-    queue_count = queues.lists ∙ laid.queue_count;
-    queues_room = rq;
-    buckets_room = rb;
-    blocks_room = rs;
-    limits_room = rl;
-    lives = λ x q e. live.stays x (laid.lives x q (sym (queues.homes x) ∙ e));
+  pub grown-laid : IsLaid al' qs' bu' bs' li' id_of
+  grown-laid = record {
+    alive_sound = grown.live.sound;
+    queues_sound = grown.more.sound;
+    alive_count = grown.live.lists ∙ laid.alive_count;
+    queue_count = grown.more.lists ∙ laid.queue_count;
+    room = grown.room;
+    lives = λ x q e. grown.live.stays x (laid.lives x q (sym (grown.more.homes x) ∙ e));
     found = λ t x. (
-      λ e. let r = (laid.found t x).0 e in (live.stays x r.0, ap (λ (w : Waiter). w.thread) (blocks x) ∙ r.1),
-      λ r. (laid.found t x).1 (live.was x r.0, ap (λ (w : Waiter). w.thread) (sym (blocks x)) ∙ r.1),
+      λ e. let r = (laid.found t x).0 e in (grown.live.stays x r.0, ap (λ (w : Waiter). w.thread) (grown.same_blocks x) ∙ r.1),
+      λ r. (laid.found t x).1 (grown.live.was x r.0, ap (λ (w : Waiter). w.thread) (sym (grown.same_blocks x)) ∙ r.1),
     );
-    bucketed = bucketed;
-    limited = λ x. limits x ∙ laid.limited x ∙ ap (λ (o : Option ℕ). limit_in o (block_at bs x)) (sym (queues.homes x)) ∙ ap (limit_in (home_at qs' x)) (sym (blocks x));
+    bucketed = grown.bucketed;
+    limited = λ x. grown.same_limits x ∙ laid.limited x ∙ ap (λ (o : Option ℕ). limit_in o (block_at bs x)) (sym (grown.more.homes x)) ∙ ap (limit_in (home_at qs' x)) (sym (grown.same_blocks x));
   }
 
 -- the buckets are right of the queues and blocks with one more

@@ -1,5 +1,5 @@
 -- Where the lists and blocks have a thread, and what they and the limits say of it.
-use Rattle.std.proofs.Common.{◌≡◌, ◌∙◌, ℕ, ◌<◌, true, List, [], ◌∷◌, length, map, refl, ap, sym, subst, arith, Option, Some, None}
+use Rattle.std.proofs.Common.{◌≡◌, ◌∙◌, ℕ, zero, suc, ◌<◌, true, List, [], ◌∷◌, length, map, refl, ap, sym, subst, arith, Option, Some, None, IfSome, IfNone}
 use Rattle.std.specs.List.{slice_get}
 use Rattle.link_lists.specs.Lists.{Lists, list_at, home_at, id_count, has}
 use Rattle.thread_queues.specs.declared.event.Due.{Due}
@@ -54,7 +54,7 @@ module _ (al qs bu : Lists) (bs : List Waiter) (li : List (Option Due)) (id_of :
 
   -- where the place of a thread that lives is found
   pub live-places : (x : ℕ) → home_at al x ≡ Some 0 → (x < id_count qs) × (x < id_count bu) × (x < length bs) × (x < length li)
-  live-places x home = let t = (laid.alive_sound.there 0 x home).1 in (omega (arith, t, laid.queues_room), omega (arith, t, laid.buckets_room), omega (arith, t, laid.blocks_room), omega (arith, t, laid.limits_room))
+  live-places x home = let t = (laid.alive_sound.there 0 x home).1 in (omega (arith, t, laid.room.queue_room.0), omega (arith, t, laid.room.bucket_room.0), omega (arith, t, laid.room.block_room.0), omega (arith, t, laid.room.limit_room.0))
 
   -- where the place of a thread in a queue is found, and that of one in a bucket
   pub queue-places : (q x : ℕ) → has x (list_at qs q) ≡ true → (x < id_count bu) × (x < length bs)
@@ -110,6 +110,18 @@ module _ (al qs bu : Lists) (bs : List Waiter) (li : List (Option Due)) (id_of :
 
   pub queue-home : (q t x : ℕ) → id_of t ≡ Some x → 0 < times t (threads_of (queue_at (slotted al qs bs) q)) → home_at qs x ≡ Some q
   queue-home q t x e some = (placed-at q t x e some).here
+
+  -- a thread that is not found stands in no queue, and neither does one whose place does
+  zero-unless : (n : ℕ) → (0 < n → ⊥) → n ≡ 0
+  zero-unless zero h = refl
+  zero-unless (suc n) h = absurd (h (omega arith))
+
+  pub lost-apart : (t : ℕ) → id_of t ≡ None → IsApart (slotted al qs bs) t
+  lost-apart t e q = zero-unless (times t (threads_of (queue_at (slotted al qs bs) q))) (λ h. let s = queue-found q t h in none-some (id_of t) s.0 e s.1)
+
+  pub home-told : (t x : ℕ) (o : Option ℕ) → id_of t ≡ Some x → o ≡ home_at qs x → IfSome o (λ q. 0 < times t (threads_of (queue_at (slotted al qs bs) q))) × IfNone o (IsApart (slotted al qs bs) t)
+  home-told t x None e home = (tt, λ q. zero-unless (times t (threads_of (queue_at (slotted al qs bs) q))) (λ h. none-some (home_at qs x) q (sym home) (queue-home q t x e h)))
+  home-told t x (Some q) e home = (queue-told q t x e (sym home), tt)
 
   -- the first limit of all places is that of the first due thread in a queue
   pub first-shown : (first : Option Due) → IsFirst li first → IsFirstOf (slotted al qs bs) first

@@ -12,7 +12,7 @@ use Rattle.thread_queues.specs.Placed.{without_first}
 use Rattle.thread_queues.specs.Slotted.{limit_in, queue_at, taken_from}
 use Rattle.thread_queues.specs.Laid.{block_at, number_at, bucket_of, slotted, IsBucketed, IsLaid}
 use Rattle.thread_queues.proofs.Ids.{filter-without, without-first-map, find-map}
-use Rattle.thread_queues.proofs.Moving.{taken-lists, map-lists, same-at}
+use Rattle.thread_queues.proofs.Moving.{same-room, taken-lists, map-lists, same-at}
 
 -- an id was taken out of the list that it was in
 pub record IsUnlinked (old new : Lists) (l x : ℕ) : Type 0 where
@@ -27,30 +27,35 @@ pub record IsTakenFromBucket (old new : Lists) (x : ℕ) : Type 0 where
   pub counts : SameCounts old new
   pub sound : IsSound new
 
-module _ (al qs bu : Lists) (bs : List Waiter) (li : List (Option Due)) (id_of : ℕ → Option ℕ) (laid : IsLaid al qs bu bs li id_of)
-    (qs' bu' : Lists) (q x : ℕ) (here : home_at qs x ≡ Some q) (out : IsUnlinked qs qs' q x) (gone : IsTakenFromBucket bu bu' x) where
+module _ (al qs bu : Lists) (bs : List Waiter) (li : List (Option Due)) (id_of : ℕ → Option ℕ) (laid : IsLaid al qs bu bs li id_of) (q x : ℕ) (here : home_at qs x ≡ Some q) where
   same-some : (m n : ℕ) → Some m ≡ Some n → m ≡ n
   same-some m n e = cc
 
+  -- another one there has another number
+  only-number : (y : ℕ) → has y (list_at qs q) ≡ true → (y ≡ x → ⊥) → (number_at bs y == number_at bs x) ≡ false
+  only-number y h ne = ne_eqb (number_at bs y) (number_at bs x) (λ e.
+      let fy = (laid.found (number_at bs x) y).1 (laid.lives y q ((laid.queues_sound.home q y).1 h), e) in
+      let fx = (laid.found (number_at bs x) x).1 (laid.lives x q here, refl) in
+      ne (same-some y x (sym fy ∙ fx)))
+
+  -- a thread is found by its number in the queue that it stands in
+  pub found-there : find (λ w. w.thread == number_at bs x) (queue_at (slotted al qs bs) q) ≡ Some (block_at bs x)
+  found-there = ap (find (λ w. w.thread == number_at bs x)) (map-lists (map (block_at bs)) qs.lists q refl)
+      ∙ find-map (block_at bs) (λ w. w.thread == number_at bs x) x (list_at qs q) ((laid.queues_sound.home q x).0 here) (eq-eqb (number_at bs x) (number_at bs x) refl) only-number
+
+module _ (al qs bu : Lists) (bs : List Waiter) (li : List (Option Due)) (id_of : ℕ → Option ℕ) (laid : IsLaid al qs bu bs li id_of)
+    (qs' bu' : Lists) (q x : ℕ) (here : home_at qs x ≡ Some q) (out : IsUnlinked qs qs' q x) (gone : IsTakenFromBucket bu bu' x) where
   none-some : (o : Option ℕ) (l : ℕ) → o ≡ None → o ≡ Some l → ⊥
   none-some o l e f = cc
 
   low : q < 6
   low = omega (arith, (laid.queues_sound.there q x here).0, laid.queue_count)
 
-  -- another one there has another number
   others : (y : ℕ) → has y (list_at qs q) ≡ true → (y ≡ x → ⊥) → (number_at bs y == number_at bs x) ≡ false
-  others y h ne = ne_eqb (number_at bs y) (number_at bs x) (λ e.
-      let fy = (laid.found (number_at bs x) y).1 (laid.lives y q ((laid.queues_sound.home q y).1 h), e) in
-      let fx = (laid.found (number_at bs x) x).1 (laid.lives x q here, refl) in
-      ne (same-some y x (sym fy ∙ fx)))
+  others = only-number al qs bu bs li id_of laid q x here
 
   in-queue : has x (list_at qs q) ≡ true
   in-queue = (laid.queues_sound.home q x).0 here
-
-  pub take-found : find (λ w. w.thread == number_at bs x) (queue_at (slotted al qs bs) q) ≡ Some (block_at bs x)
-  take-found = ap (find (λ w. w.thread == number_at bs x)) (map-lists (map (block_at bs)) qs.lists q refl)
-      ∙ find-map (block_at bs) (λ w. w.thread == number_at bs x) x (list_at qs q) in-queue (eq-eqb (number_at bs x) (number_at bs x) refl) others
 
   take-at : (k : ℕ) → get_or (map (λ ids. map (block_at bs) ids) qs'.lists) k [] ≡ get_or (set (map (λ ids. map (block_at bs) ids) qs.lists) q (without_first (λ w. w.thread == number_at bs x) (get_or (map (λ ids. map (block_at bs) ids) qs.lists) q []))) k []
   take-at k = map-lists (map (block_at bs)) qs'.lists k refl ∙ elim (cases_eq k q) [
@@ -91,7 +96,7 @@ module _ (al qs bu : Lists) (bs : List Waiter) (li : List (Option Due)) (id_of :
   take-limited : (y : ℕ) → due_at (set li x None) y ≡ limit_in (home_at qs' y) (block_at bs y)
   take-limited y = elim (cases_eq y x) [
     | inl e ↦ subst (λ (z : ℕ). due_at (set li x None) z ≡ limit_in (home_at qs' z) (block_at bs z)) (sym e)
-        (get_or-set_same li x None None (omega (arith, (laid.alive_sound.there 0 x (laid.lives x q here)).1, laid.limits_room)) ∙ ap (λ (o : Option ℕ). limit_in o (block_at bs x)) (sym out.home.this))
+        (get_or-set_same li x None None (omega (arith, (laid.alive_sound.there 0 x (laid.lives x q here)).1, laid.room.limit_room.0)) ∙ ap (λ (o : Option ℕ). limit_in o (block_at bs x)) (sym out.home.this))
     | inr ne ↦ get_or-set_other li x y None None ne ∙ laid.limited y ∙ ap (λ (o : Option ℕ). limit_in o (block_at bs y)) (sym (out.home.others y ne))
   ]
 
@@ -108,10 +113,7 @@ module _ (al qs bu : Lists) (bs : List Waiter) (li : List (Option Due)) (id_of :
     queues_sound = out.sound;
     alive_count = laid.alive_count;
     queue_count = out.counts.lists ∙ laid.queue_count;
-    queues_room = omega (arith, laid.queues_room, out.counts.ids);
-    buckets_room = omega (arith, laid.buckets_room, gone.counts.ids);
-    blocks_room = laid.blocks_room;
-    limits_room = omega (arith, laid.limits_room, length-set {A = Option Due} li x None);
+    room = same-room al qs bu al qs' bu' (length bs) (length bs) (length li) (length (set li x None)) laid.room refl out.counts.ids gone.counts.ids refl (length-set {A = Option Due} li x None) refl;
     lives = λ y p e. laid.lives y p (still y p e).0;
     found = laid.found;
     bucketed = take-bucketed;

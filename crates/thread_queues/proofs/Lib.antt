@@ -1,4 +1,5 @@
 pub mod Bucketing
+pub mod Choosing
 pub mod Counted
 pub mod Counting
 pub mod Earliest
@@ -11,7 +12,7 @@ pub mod Moving
 pub mod Placing
 pub mod Putting
 pub mod Roots
-pub mod Telling
+pub mod Standing
 pub mod Ticking
 pub mod Trees
 pub mod Waking

@@ -1,5 +1,5 @@
 -- The lists, blocks and limits stand for the threads, as a thread begins to live and ends.
-use Rattle.std.proofs.Common.{◌≡◌, ◌≢◌, ◌∙◌, ℕ, ◌<◌, ◌==◌, true, false, List, [], ◌∷◌, ◌++◌, length, map, refl, ap, sym, subst, arith, inl, inr, Option, Some, None}
+use Rattle.std.proofs.Common.{◌≡◌, ◌≢◌, ◌∙◌, ℕ, ◌<◌, ◌==◌, true, false, List, [], ◌∷◌, ◌++◌, length, map, refl, ap, sym, subst, arith, inl, inr, length-append, Option, Some, None}
 use Rattle.std.proofs.Math.ListN.{set}
 use Rattle.std.proofs.lemmas.List.{length-set, length-map, map-append}
 use Rattle.std.proofs.lemmas.Bool.{cases_eq, eq-eqb, ne_eqb}
@@ -13,7 +13,7 @@ use Rattle.thread_queues.specs.Slotted.{limit_in, with_thread, without_thread}
 use Rattle.thread_queues.specs.Laid.{block_at, number_at, slotted, IsLaid}
 use Rattle.thread_queues.proofs.Bucketing.{still-bucketed}
 use Rattle.thread_queues.proofs.Ids.{map-same, without-first-map, times-has}
-use Rattle.thread_queues.proofs.Moving.{not-in, block-same, block-other, same-at, map-lists}
+use Rattle.thread_queues.proofs.Moving.{same-room, length-without, not-in, block-same, block-other, same-at, map-lists}
 use Rattle.thread_queues.proofs.Putting.{IsPushed}
 use Rattle.thread_queues.proofs.Leaving.{IsUnlinked}
 
@@ -48,7 +48,7 @@ module _ (al qs bu : Lists) (bs : List Waiter) (li : List (Option Due)) (id_of :
   module _ (t : ℕ) (w : Waiter) (is : w.thread ≡ t) (free : home_at al x ≡ Some 1) (new : times t (slotted al qs bs).live ≡ 0) (out : IsUnlinked al al1 1 x) (pushed : IsPushed al1 al2 0 x)
       (id_of' : ℕ → Option ℕ) (this : id_of' t ≡ Some x) (others : (u : ℕ) → u ≢ t → id_of' u ≡ id_of u) where
     in-blocks : x < length bs
-    in-blocks = omega (arith, (laid.alive_sound.there 1 x free).1, laid.blocks_room)
+    in-blocks = omega (arith, (laid.alive_sound.there 1 x free).1, laid.room.block_room.0)
 
     idle : home_at qs x ≡ None
     idle = elim (home_at qs x) as (λ (o : Option ℕ). home_at qs x ≡ o → o ≡ None) [ None ↦ (λ e. refl) | Some q ↦ (λ e. absurd (zero-one (laid.lives x q e) free)) ] refl
@@ -120,10 +120,10 @@ module _ (al qs bu : Lists) (bs : List Waiter) (li : List (Option Due)) (id_of :
       queues_sound = laid.queues_sound;
       alive_count = counts.lists ∙ laid.alive_count;
       queue_count = laid.queue_count;
-      queues_room = omega (arith, laid.queues_room, counts.ids);
-      buckets_room = omega (arith, laid.buckets_room, counts.ids);
-      blocks_room = omega (arith, laid.blocks_room, counts.ids, length-set bs x w);
-      limits_room = omega (arith, laid.limits_room, counts.ids);
+      room = same-room al qs bu al2 qs bu (length bs) (length (set bs x w)) (length li) (length li) laid.room counts.ids refl refl (length-set bs x w) refl (
+          let to = ap length (moved-to 1 0 (λ s. omega (arith, s)) out pushed) in
+          let less = ap length (moved-from 1 0 (λ s. omega (arith, s)) out pushed) in
+          omega (arith, to, less, length-append (list_at al 0) (x ∷ []), length-without x (list_at al 1) (laid.alive_sound.once 1) ((laid.alive_sound.home 1 x).0 free)));
       lives = λ y q e. moved-other 1 0 (λ s. omega (arith, s)) out pushed y (λ s. none-some idle (sym (ap (home_at qs) s) ∙ e)) ∙ laid.lives y q e;
       found = λ u y. added-found u y;
       bucketed = still-bucketed qs bu bs laid.queues_sound laid.bucketed qs (set bs x w) refl (block-in 4);
@@ -153,10 +153,10 @@ module _ (al qs bu : Lists) (bs : List Waiter) (li : List (Option Due)) (id_of :
       queues_sound = laid.queues_sound;
       alive_count = counts.lists ∙ laid.alive_count;
       queue_count = laid.queue_count;
-      queues_room = omega (arith, laid.queues_room, counts.ids);
-      buckets_room = omega (arith, laid.buckets_room, counts.ids);
-      blocks_room = omega (arith, laid.blocks_room, counts.ids);
-      limits_room = omega (arith, laid.limits_room, counts.ids);
+      room = same-room al qs bu al2 qs bu (length bs) (length bs) (length li) (length li) laid.room counts.ids refl refl refl refl (
+          let to = ap length (moved-to 0 1 (λ s. omega (arith, s)) out pushed) in
+          let less = ap length (moved-from 0 1 (λ s. omega (arith, s)) out pushed) in
+          omega (arith, to, less, length-append (list_at al 1) (x ∷ []), length-without x (list_at al 0) (laid.alive_sound.once 0) ((laid.alive_sound.home 0 x).0 lives)));
       lives = λ y q e. moved-other 0 1 (λ s. omega (arith, s)) out pushed y (λ s. none-some idle (sym (ap (home_at qs) s) ∙ e)) ∙ laid.lives y q e;
       found = λ u y. (
         λ e. elim (cases_eq u t) [

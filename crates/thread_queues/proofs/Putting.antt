@@ -12,7 +12,7 @@ use Rattle.thread_queues.specs.Firsts.{due_at}
 use Rattle.thread_queues.specs.Slotted.{limit_in, put_in}
 use Rattle.thread_queues.specs.Laid.{block_at, number_at, bucket_of, bucket_put, slotted, IsBucketed, IsLaid}
 use Rattle.thread_queues.proofs.Ids.{map-same, filter-same, filter-end}
-use Rattle.thread_queues.proofs.Moving.{not-in, block-same, block-other, number-kept, map-lists, same-at}
+use Rattle.thread_queues.proofs.Moving.{same-room, not-in, block-same, block-other, number-kept, map-lists, same-at}
 use Rattle.thread_queues.proofs.Laying.{queue-is}
 
 -- an id was put at the end of a list that it was in none before
@@ -39,7 +39,7 @@ module _ (al qs bu : Lists) (bs : List Waiter) (li : List (Option Due)) (id_of :
     there = (laid.alive_sound.there 0 x live).1
 
     in-blocks : x < length bs
-    in-blocks = omega (arith, there, laid.blocks_room)
+    in-blocks = omega (arith, there, laid.room.block_room.0)
 
     nowhere : (l : ℕ) → has x (list_at qs l) ≡ false
     nowhere l = not-in qs laid.queues_sound x l (λ h. none-some (home_at qs x) l free h)
@@ -99,7 +99,7 @@ module _ (al qs bu : Lists) (bs : List Waiter) (li : List (Option Due)) (id_of :
     put-limited : (y : ℕ) → due_at (set li x (limit_in (Some q) w)) y ≡ limit_in (home_at qs' y) (block_at (set bs x w) y)
     put-limited y = elim (cases_eq y x) [
       | inl e ↦ subst (λ (z : ℕ). due_at (set li x (limit_in (Some q) w)) z ≡ limit_in (home_at qs' z) (block_at (set bs x w) z)) (sym e)
-          (get_or-set_same li x (limit_in (Some q) w) None (omega (arith, there, laid.limits_room)) ∙ ap (limit_in (Some q)) (sym (block-same bs x w in-blocks)) ∙ ap (λ (o : Option ℕ). limit_in o (block_at (set bs x w) x)) (sym pushed.home.this))
+          (get_or-set_same li x (limit_in (Some q) w) None (omega (arith, there, laid.room.limit_room.0)) ∙ ap (limit_in (Some q)) (sym (block-same bs x w in-blocks)) ∙ ap (λ (o : Option ℕ). limit_in o (block_at (set bs x w) x)) (sym pushed.home.this))
       | inr ne ↦ get_or-set_other li x y (limit_in (Some q) w) None ne ∙ laid.limited y ∙ ap (λ (o : Option ℕ). limit_in o (block_at bs y)) (sym (pushed.home.others y ne)) ∙ ap (limit_in (home_at qs' y)) (sym (block-other bs x y w ne))
     ]
 
@@ -109,10 +109,7 @@ module _ (al qs bu : Lists) (bs : List Waiter) (li : List (Option Due)) (id_of :
       queues_sound = pushed.sound;
       alive_count = laid.alive_count;
       queue_count = pushed.counts.lists ∙ laid.queue_count;
-      queues_room = omega (arith, laid.queues_room, pushed.counts.ids);
-      buckets_room = omega (arith, laid.buckets_room, bucket.counts.ids);
-      blocks_room = omega (arith, laid.blocks_room, length-set bs x w);
-      limits_room = omega (arith, laid.limits_room, length-set li x (limit_in (Some q) w));
+      room = same-room al qs bu al qs' bu' (length bs) (length (set bs x w)) (length li) (length (set li x (limit_in (Some q) w))) laid.room refl pushed.counts.ids bucket.counts.ids (length-set bs x w) (length-set li x (limit_in (Some q) w)) refl;
       lives = λ y p e. elim (cases_eq y x) [ inl s ↦ subst (λ (z : ℕ). home_at al z ≡ Some 0) (sym s) live | inr ne ↦ laid.lives y p (sym (pushed.home.others y ne) ∙ e) ];
       found = λ t y. (
         λ e. let r = (laid.found t y).0 e in (r.0, number-kept bs x w in-blocks number y ∙ r.1),

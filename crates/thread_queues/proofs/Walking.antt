@@ -1,10 +1,12 @@
 -- Along a list of ids, from one on.
-use Rattle.std.proofs.Common.{◌≡◌, ◌≢◌, ◌∙◌, ℕ, ◌<◌, ◌==◌, Bool, true, false, cond, List, [], ◌∷◌, ◌++◌, length, map, refl, ap, sym, subst, arith, inl, inr, append_assoc, Option, Some, None}
-use Rattle.std.specs.List.{find, filter}
+use Rattle.std.proofs.Common.{◌≡◌, ◌≢◌, ◌∙◌, ℕ, zero, suc, ◌-◌, ◌<◌, ◌==◌, Bool, true, false, cond, List, [], ◌∷◌, ◌++◌, length, map, refl, ap, sym, subst, arith, inl, inr, append_assoc, Option, Some, None}
+use Rattle.std.specs.List.{filter, slice_get}
 use Rattle.std.proofs.lemmas.Bool.Decides.{eqb_tells}
 use Rattle.link_lists.specs.Lists.{has, Once, first_of, behind}
 use Rattle.link_lists.proofs.Calls.{behind-parts}
 use Rattle.link_lists.proofs.Members.{has-first, has-later, has-both, has-left, not-has, same_test, parts-at, once-middle}
+use Rattle.thread_queues.specs.declared.event.Waiter.{Waiter}
+use Rattle.thread_queues.specs.Slotted.{threads_of}
 
 -- the ids from this one on; none from none on
 abbrev pub from : Option ℕ → List ℕ → List ℕ
@@ -76,12 +78,6 @@ walked xs o id once is at =
 pub walk-map : {X : Type 0} (f : ℕ → X) (xs : List ℕ) (o : Option ℕ) (id : ℕ) → IsWalked o id xs → map f (from o xs) ≡ f id ∷ map f (from (behind id xs) xs)
 walk-map {X} f xs o id w = ap (map f) w.here ∙ ap (λ (ys : List ℕ). f id ∷ map f ys) (sym w.next)
 
-pub walk-found : {X : Type 0} (f : ℕ → X) (p : X → Bool) (xs : List ℕ) (o : Option ℕ) (id : ℕ) → IsWalked o id xs → p (f id) ≡ true → find p (map f (from o xs)) ≡ Some (f id)
-walk-found {X} f p xs o id w h = ap (find p) (walk-map f xs o id w) ∙ ap (λ (b : Bool). cond b (Some (f id)) (find p (map f (from (behind id xs) xs)))) h
-
-pub walk-passed : {X : Type 0} (f : ℕ → X) (p : X → Bool) (xs : List ℕ) (o : Option ℕ) (id : ℕ) → IsWalked o id xs → p (f id) ≡ false → find p (map f (from (behind id xs) xs)) ≡ find p (map f (from o xs))
-walk-passed {X} f p xs o id w h = sym (ap (find p) (walk-map f xs o id w) ∙ ap (λ (b : Bool). cond b (Some (f id)) (find p (map f (from (behind id xs) xs)))) h)
-
 pub walk-shorter : (xs : List ℕ) (o : Option ℕ) (id : ℕ) → IsWalked o id xs → length (from (behind id xs) xs) < length (from o xs)
 walk-shorter xs o id w = let a = ap length w.here in let b = ap length w.next in omega (arith, a, b)
 
@@ -107,3 +103,20 @@ walk-filter p xs o id w = ap (filter p) (w.here ∙ ap (λ (ys : List ℕ). id �
 
 pub walk-here : (xs : List ℕ) (o : Option ℕ) (id : ℕ) → IsWalked o id xs → has id (from o xs) ≡ true
 walk-here xs o id w = subst (λ (ys : List ℕ). has id ys ≡ true) (sym w.here) (has-first id w.rest)
+
+-- the threads that pass a test, from an id on
+module _ (f : ℕ → Waiter) (p : Waiter → Bool) (xs : List ℕ) (o : Option ℕ) (id : ℕ) (w : IsWalked o id xs) where
+  tested : (b : Bool) → p (f id) ≡ b → threads_of (filter p (map f (from o xs))) ≡ threads_of (cond b (f id ∷ filter p (map f (from (behind id xs) xs))) (filter p (map f (from (behind id xs) xs))))
+  tested b h = ap (λ (ws : List Waiter). threads_of (filter p ws)) (walk-map f xs o id w) ∙ ap (λ (c : Bool). threads_of (cond c (f id ∷ filter p (map f (from (behind id xs) xs))) (filter p (map f (from (behind id xs) xs))))) h
+
+  pub walk-here-at : (k : ℕ) → p (f id) ≡ true → k ≡ 0 → slice_get (threads_of (filter p (map f (from o xs)))) k ≡ Some (f id).thread
+  walk-here-at k h e = ap (λ (n : ℕ). slice_get (threads_of (filter p (map f (from o xs)))) n) e ∙ ap (λ (ts : List ℕ). slice_get ts 0) (tested true h)
+
+  pub walk-later-at : (k : ℕ) → p (f id) ≡ true → 0 < k → slice_get (threads_of (filter p (map f (from (behind id xs) xs)))) (k - 1) ≡ slice_get (threads_of (filter p (map f (from o xs)))) k
+  walk-later-at zero h low = absurd (omega (arith, low))
+  walk-later-at (suc k) h low =
+      let same : suc k - 1 ≡ k = omega arith in
+      ap (slice_get (threads_of (filter p (map f (from (behind id xs) xs))))) same ∙ sym (ap (λ (ts : List ℕ). slice_get ts (suc k)) (tested true h))
+
+  pub walk-over-at : (k : ℕ) → p (f id) ≡ false → slice_get (threads_of (filter p (map f (from (behind id xs) xs)))) k ≡ slice_get (threads_of (filter p (map f (from o xs)))) k
+  walk-over-at k h = sym (ap (λ (ts : List ℕ). slice_get ts k) (tested false h))

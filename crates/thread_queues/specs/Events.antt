@@ -1,5 +1,5 @@
 -- Whether two events are the same, and in which order events come.
-use Rattle.std.specs.Prelude.{ℕ, ◌+◌, Bool, true, false, ◌==◌}
+use Rattle.std.specs.Prelude.{ℕ, ◌+◌, Bool, true, false, ◌==◌, nat_lt}
 use Rattle.thread_queues.specs.declared.event.Event.{Event}
 use Rattle.thread_queues.specs.declared.event.Event.TheVariants.{Lock, Latch, Page, LogFlush, PhysFlush, LogSpace, Checkpoint, Critical, Cleaning}
 
@@ -26,3 +26,6 @@ number_of LogSpace = 8589934595
 number_of Checkpoint = 8589934596
 number_of Critical = 8589934597
 number_of Cleaning = 8589934598
+
+abbrev pub is_event_before : Event → Event → Bool
+is_event_before d e = nat_lt (number_of d) (number_of e)

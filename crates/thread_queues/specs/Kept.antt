@@ -24,3 +24,5 @@ pub record IsCounted (p : Placed) : Type 0 where
 pub record IsKept (a : Inside) : Type 0 where
   pub counted : IsCounted (placed_of a)
   pub six : length a.slots.queues ≡ 6
+  pub few : a.cpu ≤ 16
+  pub live : a.live ≡ length a.slots.live

@@ -42,6 +42,23 @@ pub record IsBucketed (queues buckets : Lists) (blocks : List Waiter) : Type 0 w
   pub many : id_count buckets + 7 ≤ list_count buckets
   pub waiting : (b : ℕ) → list_at buckets b ≡ filter (λ x. bucket_of (list_count buckets) (block_at blocks x).event == b) (list_at queues 4)
 
+-- no more threads live at once
+abbrev pub most_threads : ℕ
+most_threads = 1000000000
+
+-- as many as there are places, or one more
+abbrev pub IsRoom : ℕ → ℕ → Type 0
+IsRoom places n = (places ≤ n) × (n ≤ places + 1)
+
+-- there is room for each place; each place is that of a live thread or a free one
+pub record HasRoom (alive queues buckets : Lists) (blocks limits : ℕ) : Type 0 where
+  pub queue_room : IsRoom (id_count alive) (id_count queues)
+  pub bucket_room : IsRoom (id_count alive) (id_count buckets)
+  pub block_room : IsRoom (id_count alive) blocks
+  pub limit_room : IsRoom (id_count alive) limits
+  pub full : id_count alive ≡ length (list_at alive 0) + length (list_at alive 1)
+  pub few : id_count alive ≤ most_threads
+
 -- the first list of the first lists has the ids of live threads; queue 4 has those that wait
 abbrev pub slotted : Lists → Lists → List Waiter → Slotted
 slotted alive queues blocks =
@@ -53,10 +70,7 @@ pub record IsLaid (alive queues buckets : Lists) (blocks : List Waiter) (limits 
   pub queues_sound : IsSound queues
   pub alive_count : list_count alive ≡ 2
   pub queue_count : list_count queues ≡ 6
-  pub queues_room : id_count alive ≤ id_count queues
-  pub buckets_room : id_count alive ≤ id_count buckets
-  pub blocks_room : id_count alive ≤ length blocks
-  pub limits_room : id_count alive ≤ length limits
+  pub room : HasRoom alive queues buckets (length blocks) (length limits)
   pub lives : (x q : ℕ) → home_at queues x ≡ Some q → home_at alive x ≡ Some 0
   pub found : (t x : ℕ) → (id_of t ≡ Some x) ↔ ((home_at alive x ≡ Some 0) × (number_at blocks x ≡ t))
   pub bucketed : IsBucketed queues buckets blocks

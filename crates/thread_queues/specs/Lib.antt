@@ -1,7 +1,10 @@
 pub mod Events
 pub mod Firsts
+pub mod Grown
 pub mod Kept
 pub mod Laid
+pub mod Least
+pub mod Orders
 pub mod Placed
 pub mod Shown
 pub mod Slotted

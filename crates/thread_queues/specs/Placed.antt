@@ -1,10 +1,12 @@
 -- Where each thread stands, and what each call makes of it.
-use Rattle.std.specs.Prelude.{ℕ, ◌+◌, ◌≡◌, ◌≤◌, ◌==◌, Bool, if◌then◌else◌, Option, Some, None, IsSome, IsNone, List, [], ◌∷◌, ◌++◌, map, drop, slice_get, slice_set, slice_index_or, replicate, find, filter, option_to_list, unwrap_or}
+use Rattle.std.specs.Prelude.{ℕ, ◌+◌, ◌≡◌, ◌<◌, ◌≤◌, ◌==◌, Bool, if◌then◌else◌, Option, Some, None, IsSome, IsNone, List, [], ◌∷◌, ◌++◌, map, drop, slice_get, slice_set, slice_index_or, replicate, find, filter, option_to_list, unwrap_or}
 use Rattle.std.specs.List.{flat_map}
 use Rattle.ids_base.specs.declared.class.Class.{Class}
 use Rattle.ids_base.specs.declared.class.Class.TheVariants.{Cpu, Lio, Pio, Aio}
 use Rattle.ids_base.specs.Classes.{class_of}
 use Rattle.thread_queues.specs.declared.event.Event.{Event}
+use Rattle.thread_queues.specs.declared.event.Place.{Place}
+use Rattle.thread_queues.specs.declared.event.Place.TheVariants.{Ready, Waits, Sleeps, Runs}
 use Rattle.thread_queues.specs.declared.event.Waiter.{Waiter}
 use Rattle.thread_queues.specs.declared.event.Sleeper.{Sleeper}
 use Rattle.thread_queues.specs.Events.{is_event}
@@ -140,3 +142,10 @@ woken_still p t (Some w) = woken_waiter p (λ x. x.thread == t) (Some w)
 
 abbrev pub woken : Placed → ℕ → Placed
 woken p t = woken_still p t (waiter_of p t)
+
+-- a thread is in this place
+abbrev pub IsAt : Placed → ℕ → Place → Type 0
+IsAt p t (Ready class) = 0 < times t (queue p.ready class)
+IsAt p t (Waits event) = 0 < times t (map (λ w. w.thread) (queue_of p event))
+IsAt p t Sleeps = 0 < times t (map (λ s. s.thread) p.sleeps)
+IsAt p t (Runs vp) = running_at p vp ≡ Some t

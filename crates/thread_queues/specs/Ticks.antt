@@ -21,9 +21,13 @@ limits_of_sleeps ss = map (λ s. record { tick = s.due; thread = s.thread }) ss
 abbrev pub reached : ℕ → List Due → List Due
 reached now ds = filter (λ d. nat_le d.tick now) ds
 
--- the threads that wait with a limit or sleep, and are due
+-- when each thread is due that waits with a limit or sleeps
+abbrev pub limits : Placed → List Due
+limits p = limits_of_waits p.waits ++ limits_of_sleeps p.sleeps
+
+-- those that are due
 abbrev pub due_threads : Placed → List Due
-due_threads p = reached p.tick (limits_of_waits p.waits ++ limits_of_sleeps p.sleeps)
+due_threads p = reached p.tick (limits p)
 
 -- the lesser due tick comes first, then the lesser number
 abbrev pub is_before : Due → Due → Bool

@@ -4,11 +4,12 @@
 //! those as places, one less than a power of two, so that numbers that lie a power of two apart spread over them too.
 ghost use Rattle.std.specs.Prelude.{◌≡◌, ◌<◌, ◌≤◌, ◌+◌, ◌-◌, ◌%◌, ℕ, [], true, None, IfOk, OnOk, OnErr, length};
 ghost use Rattle.link_lists.specs.Lists.{list_at, home_at, list_count, id_count, has, without, SameCounts, IsSound};
-ghost use Rattle.thread_queues.specs.Laid.{bucket_of, bucket_put, IsBucketed};
+ghost use Rattle.thread_queues.specs.Laid.{most_threads, bucket_of, bucket_put, IsBucketed, IsRoom};
 
 use crate::event::{Event, Waiter};
+use ids_base::memory::Memory;
 use link_lists::Lists;
-use std::alloc::{AllocError, Global};
+use std::alloc::Global;
 
 /// The queue of the threads that wait.
 pub const WAITS: u32 = 4;
@@ -19,17 +20,14 @@ const UNNUMBERED: u32 = 7;
 /// How many buckets latches and pages have at first.
 const NUMBERED: u32 = 127;
 
-/// More buckets than these are not made.
-const MOST: u32 = 1073741824;
-
 /// Buckets and no place.
-pub fn none(alloc: Global) -> Result<Lists, AllocError>
+pub fn none(alloc: Global) -> Result<Lists, Memory>
     ensures wide { IfOk result (λ bu. 7 < list_count bu) }
     ensures no_places { IfOk result (λ bu. id_count bu ≡ 0) }
     ensures empty { IfOk result (λ bu. (b : ℕ) → list_at bu b ≡ []) }
     ensures sound { IfOk result (λ bu. IsSound bu) }
 {
-    Lists::new(alloc, UNNUMBERED + NUMBERED)
+    Ok(Lists::new(alloc, UNNUMBERED + NUMBERED)?)
 }
 
 /// The bucket of an event, where there are so many. Takes constant time.
@@ -91,21 +89,28 @@ pub fn take(buckets: &mut Lists, id: u32)
     buckets.unlink(id);
 }
 
-/// One place more, and where there are as many places as buckets for numbers about twice as many buckets first.
+/// One place more than these, if there are not more already, and where there are as many as buckets for numbers about twice as many
+/// buckets first. Answers `Memory` where there is none, and the threads that wait are in buckets as before.
 pub fn add_place(
     alloc: Global,
     buckets: &mut Lists,
+    places: u32,
     queues: &Lists,
     blocks: &[Waiter],
-) -> Result<(), AllocError>
+) -> Result<(), Memory>
     requires bucketed { IsBucketed queues.now buckets.old blocks.now }
     requires queues { 4 < list_count queues.now }
-    requires places { (x : ℕ) → has x (list_at queues.now 4) ≡ true → x < id_count buckets.old }
+    requires room { IsRoom places (id_count buckets.old) }
+    requires few { places < most_threads }
+    requires places { (x : ℕ) → has x (list_at queues.now 4) ≡ true → x < places }
     requires blocks { (x : ℕ) → has x (list_at queues.now 4) ≡ true → x < length blocks.now }
     ensures bucketed { IsBucketed queues.now buckets.new blocks.now }
-    ensures more { OnOk result (id_count buckets.new ≡ id_count buckets.old + 1) }
-    ensures same { OnErr result (id_count buckets.new ≡ id_count buckets.old) }
+    ensures more { OnOk result (id_count buckets.new ≡ places + 1) }
+    ensures room { IsRoom places (id_count buckets.new) }
 {
+    if buckets.id_count() > places {
+        return Ok(());
+    }
     widen(alloc, buckets, queues, blocks)?;
     buckets.add_id()?;
     Ok(())
@@ -117,9 +122,10 @@ fn widen(
     buckets: &mut Lists,
     queues: &Lists,
     blocks: &[Waiter],
-) -> Result<(), AllocError>
+) -> Result<(), Memory>
     requires bucketed { IsBucketed queues.now buckets.old blocks.now }
     requires queues { 4 < list_count queues.now }
+    requires few { id_count buckets.old < most_threads }
     requires places { (x : ℕ) → has x (list_at queues.now 4) ≡ true → x < id_count buckets.old }
     requires blocks { (x : ℕ) → has x (list_at queues.now 4) ≡ true → x < length blocks.now }
     ensures bucketed { IsBucketed queues.now buckets.new blocks.now }
@@ -130,9 +136,6 @@ fn widen(
     let places = buckets.id_count();
     if places < count - UNNUMBERED {
         return Ok(());
-    }
-    if count > MOST {
-        return Err(AllocError);
     }
     let wider = UNNUMBERED + 2 * (count - UNNUMBERED) + 1;
     *buckets = filled(alloc, wider, places, queues, blocks)?;
@@ -146,9 +149,10 @@ fn filled(
     places: u32,
     queues: &Lists,
     blocks: &[Waiter],
-) -> Result<Lists, AllocError>
+) -> Result<Lists, Memory>
     requires wide { 7 < count }
     requires many { places + 7 ≤ count }
+    requires few { count ≤ 2147483648 }
     requires queues { 4 < list_count queues.now }
     requires places { (x : ℕ) → has x (list_at queues.now 4) ≡ true → x < places }
     requires blocks { (x : ℕ) → has x (list_at queues.now 4) ≡ true → x < length blocks.now }
@@ -167,7 +171,9 @@ fn filled(
 }
 
 /// So many empty buckets, and places.
-fn with_places(alloc: Global, count: u32, places: u32) -> Result<Lists, AllocError>
+fn with_places(alloc: Global, count: u32, places: u32) -> Result<Lists, Memory>
+    requires many { places < count }
+    requires few { count ≤ 2147483648 }
     ensures count { IfOk result (λ bu. list_count bu ≡ count) }
     ensures places { IfOk result (λ bu. id_count bu ≡ places) }
     ensures empty { IfOk result (λ bu. (b : ℕ) → list_at bu b ≡ []) }

@@ -1,4 +1,4 @@
-//! What a thread may wait for, and a thread that waits or sleeps.
+//! What a thread may wait for, where a thread is, and a thread that waits or sleeps.
 ghost use Rattle.std.specs.Prelude.{◌≡◌};
 ghost use Rattle.thread_queues.specs.Events.{is_event};
 
@@ -73,6 +73,19 @@ pub struct Sleeper {
     pub due: u64,
     pub thread: ThreadNo,
     pub class: Class,
+}
+
+/// Where a live thread is.
+#[derive(Clone, Copy, PartialEq, Eq, Debug)]
+pub enum Place {
+    /// In the ready queue of this class.
+    Ready(Class),
+    /// Among those that wait for this event.
+    Waits(Event),
+    /// Among those that sleep.
+    Sleeps,
+    /// On this processor.
+    Runs(u32),
 }
 
 /// When a thread is due that waits with a limit or sleeps.

@@ -8,11 +8,9 @@ ghost use Rattle.thread_queues.specs.Tree.{first_at, first_below, IsTree};
 
 use crate::due;
 use crate::event::Due;
-use std::alloc::{AllocError, Global};
+use ids_base::memory::Memory;
+use std::alloc::Global;
 use std::marker::Model;
-
-/// The most places.
-const MOST: usize = 2147483648;
 
 /// When a place is due, and the first of it and all below it.
 #[derive(Clone, Copy)]
@@ -50,14 +48,19 @@ impl Limits {
         }
     }
 
-    /// One place more, with no limit. Where there is no memory, all is as it was.
-    pub fn add(&mut self) -> Result<(), AllocError>
+    /// How many places there are.
+    pub fn len(&self) -> usize
+        ensures { result ≡ length self.now }
+    {
+        self.nodes.len()
+    }
+
+    /// One place more, with no limit. Answers `Memory` where there is none, and all is as it was.
+    pub fn add(&mut self) -> Result<(), Memory>
+        requires { length self.old < 2147483648 }
         ensures ok { OnOk result (self.new ≡ self.old ++ None ∷ []) }
         ensures err { OnErr result (self.new ≡ self.old) }
     {
-        if self.nodes.len() >= MOST {
-            return Err(AllocError);
-        }
         self.nodes.push(Node {
             own: None,
             first: None,

@@ -2,21 +2,24 @@
 //!
 //! A call that moves a thread looks for it by number in a hash table, and takes time in proportion to the logarithm of the most threads
 //! that lived at once, since a tree knows when each is due; what a call takes beyond that it says.
-ghost use Rattle.std.specs.Prelude.{◌≡◌, ◌==◌, ◌<◌, ◌≤◌, ◌+◌, ◌↔◌, ℕ, [], None, Some, IfOk, OnOk, OnErr, IsNone, IsSome, IsTrue, length, slice_get, option_map, filter, map, is_some, IsPermutation};
-ghost use Rattle.std.specs.List.Sorted.{IsSortedBy, IsSortedByKey, IsStableByKey};
-ghost use Rattle.std.specs.Ordering.{nat_cmp};
+ghost use Rattle.std.specs.Prelude.{◌≡◌, ◌≢◌, ◌==◌, ◌<◌, ◌≤◌, ◌+◌, ◌↔◌, ℕ, nat_lt, [], None, Some, IfOk, OnOk, OnErr, IsNone, IsSome, IsTrue, length, slice_get, option_map, filter, map, is_some, option_to_list};
+ghost use Rattle.std.specs.List.{flat_map};
 ghost use Rattle.ids_base.specs.Classes.{class_of};
-ghost use Rattle.thread_queues.specs.Events.{is_event, number_of};
-ghost use Rattle.thread_queues.specs.Placed.{times as count, queue, queue_of, waiter_of, sleeper_of, running_at, thread_at, first_waiter, idle, spawned, dispatched, yielded, waiting, sleeping, ended, woken_one, woken_waiter, roused, woken, IsStill, IsPlaced};
+ghost use Rattle.thread_queues.specs.Events.{is_event, is_event_before};
+ghost use Rattle.thread_queues.specs.Laid.{most_threads};
+ghost use Rattle.thread_queues.specs.Least.{behind, IsLeast};
+ghost use Rattle.thread_queues.specs.Placed.{times as count, queue, queue_of, waiter_of, sleeper_of, running_at, thread_at, first_waiter, idle, spawned, dispatched, yielded, waiting, sleeping, ended, woken_one, woken_waiter, roused, woken, IsAt, IsStill, IsPlaced};
 ghost use Rattle.thread_queues.specs.Shown.{class_queue, sleeper};
-ghost use Rattle.thread_queues.specs.Ticks.{due_threads, first_due, still_count, raised, ticked, is_due_before};
+ghost use Rattle.thread_queues.specs.Ticks.{limits, due_threads, first_due, still_count, raised, ticked, is_due_before};
 
 use crate::buckets::WAITS;
-use crate::event::{Due, Event, Sleeper, Waiter, same_event};
+use crate::event::{Due, Event, Place, Sleeper, Waiter};
+use crate::order::Order;
 use crate::slots::Slots;
 use ids_base::class::Class;
+use ids_base::memory::Memory;
 use ids_base::numbers::ThreadNo;
-use std::alloc::{AllocError, Global};
+use std::alloc::Global;
 use std::marker::Model;
 
 /// The queue of the threads that sleep.
@@ -27,6 +30,7 @@ const SLEEPS: u32 = 5;
 pub struct Threads {
     cpu: u32,
     tick: u64,
+    live: u32,
     slots: Slots,
     running: Vec<Option<ThreadNo>>,
 }
@@ -44,8 +48,9 @@ impl Model for Threads {
 }
 
 impl Threads {
-    /// No thread, tick 0, and processors that run nothing: `cpu` of class CPU, then one each of LIO, PIO and AIO.
-    pub fn new(alloc: Global, cpu: u32) -> Result<Self, AllocError>
+    /// No thread, tick 0, and processors that run nothing: `cpu` of class CPU, then one each of LIO, PIO and AIO. Answers `Memory` where
+    /// there is none for them. Takes time in proportion to the processors.
+    pub fn new(alloc: Global, cpu: u32) -> Result<Self, Memory>
         requires { cpu ≤ 16 }
         ensures { IfOk result (λ t. t ≡ idle cpu) }
     {
@@ -57,6 +62,7 @@ impl Threads {
         Ok(Self {
             cpu,
             tick: 0,
+            live: 0,
             slots,
             running,
         })
@@ -85,6 +91,13 @@ impl Threads {
         self.running[vp as usize]
     }
 
+    /// How many threads live. Takes constant time.
+    pub fn live(&self) -> u32
+        ensures { result ≡ length self.now.live }
+    {
+        self.live
+    }
+
     /// Whether a thread lives: it was spawned and has not ended. Takes constant time.
     pub fn lives(&self, thread: ThreadNo) -> bool
         ensures { IsTrue result ↔ (0 < count thread self.now.live) }
@@ -106,63 +119,115 @@ impl Threads {
         self.slots.stands(SLEEPS, thread)
     }
 
-    /// The ready threads of a class, in the order of their queue. Takes time and memory in proportion to them.
-    pub fn ready(&self, alloc: Global, class: Class) -> Result<Vec<ThreadNo>, AllocError>
-        ensures { IfOk result (λ v. v.items ≡ queue self.now.ready class) }
+    /// Where a live thread is. Takes constant time, and for one that runs time in proportion to the number of processors.
+    pub fn place(&self, thread: ThreadNo) -> Place
+        requires { 0 < count thread self.now.live }
+        ensures { IsAt self.now thread result }
     {
-        let ready = self.slots.list(alloc, ready_queue(class))?;
-        ready.iter().map(|waiter| waiter.thread).collect(alloc)
+        match self.slots.home(thread) {
+            Some(0) => Place::Ready(Class::Cpu),
+            Some(1) => Place::Ready(Class::Lio),
+            Some(2) => Place::Ready(Class::Pio),
+            Some(3) => Place::Ready(Class::Aio),
+            Some(WAITS) => Place::Waits(self.slots.waiter(WAITS, thread).event),
+            Some(_) => Place::Sleeps,
+            None => Place::Runs(self.processor_of(thread)),
+        }
     }
 
-    /// The threads that wait for an event, in the order of their queue.
-    ///
-    /// Takes time and memory in proportion to the threads in the event's bucket: those that wait for it and, for a latch or a page, those
-    /// that wait for others of the bucket. As at `wake_one`, these are fewer than one on average where numbers spread well, and at worst
-    /// all that wait for latches and pages.
-    pub fn waiting_for(&self, alloc: Global, event: Event) -> Result<Vec<ThreadNo>, AllocError>
-        ensures { IfOk result (λ v. v.items ≡ map (λ w. w.thread) (queue_of self.now event)) }
+    /// The processor that runs a thread.
+    fn processor_of(&self, thread: ThreadNo) -> u32
+        requires { 0 < count thread (flat_map option_to_list self.now.running) }
+        ensures { running_at self.now result ≡ Some thread }
     {
-        threads_for(alloc, &self.slots.bucket(alloc, event)?, event)
+        for vp in 0..self.cpu + 3 {
+            if self.running[vp as usize] == Some(thread) {
+                return vp;
+            }
+        }
+        unreachable!()
     }
 
-    /// All waiting threads, by event in the order of that type, those of one event in the order of their queue.
+    /// The live thread with the least number above this one, and of all where none is named: None exactly where there is none.
     ///
-    /// Takes memory in proportion to them, and time in proportion to a sort of them.
-    pub fn waiting(&self, alloc: Global) -> Result<Vec<Waiter>, AllocError>
-        ensures all { IfOk result (λ v. IsPermutation self.now.waits v.items) }
-        ensures by_event { IfOk result (λ v. IsSortedByKey (λ w. number_of w.event) nat_cmp v.items) }
-        ensures by_queue { IfOk result
-            (λ v. IsStableByKey (λ w. number_of w.event) nat_cmp self.now.waits v.items) }
+    /// Takes time in proportion to the live threads.
+    pub fn thread_after(&self, thread: Option<ThreadNo>) -> Option<ThreadNo>
+        ensures { IsLeast nat_lt (behind nat_lt thread self.now.live) result }
     {
-        let mut waiters = self.slots.list(alloc, WAITS)?;
-        waiters.sort_by_key(|waiter| waiter.event.number())?;
-        Ok(waiters)
+        self.slots.thread_behind(thread)
     }
 
-    /// All sleeping threads, by the tick when they are due, then by number.
-    ///
-    /// Takes memory in proportion to them, and time in proportion to a sort of them.
-    pub fn sleeping(&self, alloc: Global) -> Result<Vec<Sleeper>, AllocError>
-        ensures all { IfOk result (λ v. IsPermutation self.now.sleeps v.items) }
-        ensures by_tick { IfOk result (λ v. IsSortedBy is_due_before v.items) }
+    /// Whether a class has a ready thread. Takes constant time.
+    pub fn has_ready(&self, class: Class) -> bool
+        ensures { IsTrue result ↔ (queue self.now.ready class ≢ []) }
     {
-        let mut sleepers = sleepers_of(alloc, &self.slots.list(alloc, SLEEPS)?)?;
-        sleepers.sort_by_key(|sleeper| sleeper.thread)?;
-        sleepers.sort_by_key(|sleeper| sleeper.due)?;
-        Ok(sleepers)
+        self.ready_at(class, 0).is_some()
+    }
+
+    /// The thread at a position of a class's ready queue, from 0 on: None exactly where the queue is not so long.
+    ///
+    /// Takes time in proportion to the position.
+    pub fn ready_at(&self, class: Class, position: u32) -> Option<ThreadNo>
+        ensures { result ≡ slice_get (queue self.now.ready class) position }
+    {
+        self.slots.thread_at(ready_queue(class), position)
+    }
+
+    /// The thread at a position of the queue of an event, from 0 on: None exactly where the queue is not so long.
+    ///
+    /// Takes time in proportion to the position for an event without a number. For a latch or a page it may pass over threads of the
+    /// bucket that wait for others, as `wake_one` does: at worst all that wait for latches and pages.
+    pub fn waiting_at(&self, event: Event, position: u32) -> Option<ThreadNo>
+        ensures { result ≡ slice_get (map (λ w. w.thread) (queue_of self.now event)) position }
+    {
+        self.slots.waiter_at(event, position)
+    }
+
+    /// The first event behind this one, in the order of that type, that a thread waits for, and the first of all where none is named:
+    /// None exactly where there is none. Takes time in proportion to the threads that wait.
+    pub fn event_after(&self, event: Option<Event>) -> Option<Event>
+        ensures { IsLeast is_event_before (behind is_event_before event (map (λ w. w.event) self.now.waits)) result }
+    {
+        let found = self
+            .slots
+            .first_behind(WAITS, Order::Events, any_waiter(event))?;
+        Some(found.event)
+    }
+
+    /// The first sleeping thread behind this one, by the tick when they are due and then by number, and the first of all where none is
+    /// named: None exactly where there is none. Takes time in proportion to the threads that sleep.
+    pub fn sleeper_after(&self, sleeper: Option<Sleeper>) -> Option<Sleeper>
+        ensures { IsLeast is_due_before (behind is_due_before sleeper self.now.sleeps) result }
+    {
+        let found = self
+            .slots
+            .first_behind(SLEEPS, Order::Ticks, asleep(sleeper))?;
+        Some(sleeper_of(found))
+    }
+
+    /// The least tick when a thread is due that waits with a limit or sleeps: None exactly where there is no such thread.
+    ///
+    /// Takes constant time.
+    pub fn next_due(&self) -> Option<u64>
+        ensures { IsLeast nat_lt (map (λ d. d.tick) (limits self.now)) result }
+    {
+        let due = self.slots.first_limit()?;
+        Some(due.tick)
     }
 
     /// Makes a thread, which goes to the end of its class's ready queue.
     ///
     /// Takes room for it in every queue, so that no later call takes any. Tables grow to about twice their size now and then, and with
     /// them the buckets by events: a call takes the logarithm on average over many, and at worst time in proportion to the most threads
-    /// that lived at once. For want of memory nothing changes.
-    pub fn spawn(&mut self, thread: ThreadNo, class: Class) -> Result<(), AllocError>
-        requires { count thread self.old.live ≡ 0 }
+    /// that lived at once. Answers `Memory` where there is none, and nothing changes then.
+    pub fn spawn(&mut self, thread: ThreadNo, class: Class) -> Result<(), Memory>
+        requires new { count thread self.old.live ≡ 0 }
+        requires few { length self.old.live < most_threads }
         ensures spawned { OnOk result (self.new ≡ spawned self.old thread class) }
         ensures unchanged { OnErr result (self.new ≡ self.old) }
     {
         self.slots.add(thread)?;
+        self.live += 1;
         self.slots
             .put(ready_queue(class), ready_waiter(thread, class));
         Ok(())
@@ -251,6 +316,7 @@ impl Threads {
         if let Some(thread) = self.running[vp as usize] {
             self.running[vp as usize] = None;
             self.slots.remove(thread);
+            self.live -= 1;
         }
     }
 
@@ -365,30 +431,41 @@ fn ready_waiter(thread: ThreadNo, class: Class) -> Waiter
     }
 }
 
-/// The threads among these that wait for an event, in their order.
-fn threads_for(alloc: Global, waiters: &[Waiter], event: Event) -> Result<Vec<ThreadNo>, AllocError>
-    ensures { IfOk result
-        (λ v. v.items ≡ map (λ w. w.thread) (filter (λ w. is_event w.event event) waiters.now)) }
+/// A thread that waits for an event, if one is named.
+fn any_waiter(event: Option<Event>) -> Option<Waiter>
+    ensures { option_map (λ w. w.event) result ≡ event }
 {
-    waiters
-        .iter()
-        .filter(|waiter| same_event(waiter.event, event))
-        .map(|waiter| waiter.thread)
-        .collect(alloc)
+    let event = event?;
+    Some(Waiter {
+        event,
+        thread: 0,
+        class: Class::Cpu,
+        due: None,
+    })
 }
 
-/// Sleeping threads without what they have of waiting ones.
-fn sleepers_of(alloc: Global, waiters: &[Waiter]) -> Result<Vec<Sleeper>, AllocError>
-    ensures { IfOk result (λ v. v.items ≡ map sleeper waiters.now) }
+/// A sleeping thread as one in a queue, if one is named.
+fn asleep(from: Option<Sleeper>) -> Option<Waiter>
+    ensures { option_map sleeper result ≡ from }
 {
-    waiters
-        .iter()
-        .map(|waiter| Sleeper {
-            due: waiter.due.unwrap_or(0),
-            thread: waiter.thread,
-            class: waiter.class,
-        })
-        .collect(alloc)
+    let sleeper = from?;
+    Some(Waiter {
+        event: Event::Lock,
+        thread: sleeper.thread,
+        class: sleeper.class,
+        due: Some(sleeper.due),
+    })
+}
+
+/// A sleeping thread without what it has of a waiting one.
+fn sleeper_of(waiter: Waiter) -> Sleeper
+    ensures { result ≡ sleeper waiter }
+{
+    Sleeper {
+        due: waiter.due.unwrap_or(0),
+        thread: waiter.thread,
+        class: waiter.class,
+    }
 }
 
 #[cfg(test)]

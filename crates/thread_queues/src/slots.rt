@@ -2,27 +2,30 @@
 //!
 //! Each live thread has a block, found by the thread's number; queues are lists of the blocks' places. The threads that wait stand also in
 //! buckets by their events (module `buckets`), so that the first one for an event is found with few looks.
-ghost use Rattle.std.specs.Prelude.{◌≡◌, ◌==◌, ◌<◌, ◌≤◌, ◌+◌, ◌↔◌, ℕ, true, None, Some, IfOk, OnOk, OnErr, IsTrue, find, filter, map, length, slice_get, option_map};
+ghost use Rattle.std.specs.Prelude.{◌≡◌, ◌==◌, ◌<◌, ◌≤◌, ◌+◌, ◌↔◌, ℕ, true, nat_lt, None, Some, IfOk, IfSome, IfNone, OnOk, OnErr, IsTrue, find, filter, map, length, slice_get, option_map};
 ghost use Rattle.link_lists.specs.Lists.{list_at, list_count, has};
 ghost use Rattle.thread_queues.specs.Events.{is_event};
 ghost use Rattle.thread_queues.specs.Placed.{times};
 ghost use Rattle.thread_queues.specs.Slotted.{queue_at, threads_of, nothing, put_in, taken_from, popped_from, with_thread, without_thread, limit_in, IsApart, IsFirstOf};
-ghost use Rattle.thread_queues.specs.Laid.{block_at};
+ghost use Rattle.thread_queues.specs.Laid.{most_threads, block_at};
+ghost use Rattle.thread_queues.specs.Least.{behind, IsLeast};
+ghost use Rattle.thread_queues.specs.Orders.{comes_before, counts};
 
 use crate::buckets::{self, WAITS};
 use crate::event::{Due, Event, Waiter, same_event};
+use crate::growth::{self, FREE};
 use crate::limits::Limits;
+use crate::order::{self, Order};
 use ids_base::class::Class;
+use ids_base::memory::Memory;
 use ids_base::numbers::ThreadNo;
 use link_lists::Lists;
-use std::alloc::{AllocError, Global};
+use std::alloc::Global;
 use std::collections::HashMap;
 use std::marker::Model;
 
-/// The places of live threads, and those that no thread has.
+/// The places of live threads.
 const LIVE: u32 = 0;
-
-const FREE: u32 = 1;
 
 /// How many queues there are.
 const QUEUES: u32 = 6;
@@ -55,7 +58,7 @@ impl Model for Slots {
 
 impl Slots {
     /// No thread.
-    pub fn new(alloc: Global) -> Result<Self, AllocError>
+    pub fn new(alloc: Global) -> Result<Self, Memory>
         ensures { IfOk result (λ s. s ≡ nothing) }
     {
         let alive = Lists::new(alloc, 2)?;
@@ -72,18 +75,21 @@ impl Slots {
         })
     }
 
-    /// A thread that lives, in no queue. Where there is no memory, all is as it was.
-    pub fn add(&mut self, thread: ThreadNo) -> Result<(), AllocError>
-        requires { times thread self.old.live ≡ 0 }
+    /// A thread that lives, in no queue. Answers `Memory` where there is none, and all is as it was.
+    pub fn add(&mut self, thread: ThreadNo) -> Result<(), Memory>
+        requires new { times thread self.old.live ≡ 0 }
+        requires few { length self.old.live < most_threads }
         ensures added { OnOk result (self.new ≡ with_thread self.old thread) }
         ensures unchanged { OnErr result (self.new ≡ self.old) }
     {
-        if self.alive.front(FREE).is_none() {
-            self.grow()?;
-        }
-        let Some(id) = self.alive.front(FREE) else {
-            return Err(AllocError);
-        };
+        let id = growth::free_place(
+            self.alloc,
+            &mut self.alive,
+            &mut self.queues,
+            &mut self.buckets,
+            &mut self.blocks,
+            &mut self.limits,
+        )?;
         self.numbers.insert(thread, id)?;
         self.alive.unlink(id);
         self.alive.push_back(LIVE, id);
@@ -93,24 +99,6 @@ impl Slots {
             class: Class::Cpu,
             due: None,
         };
-        Ok(())
-    }
-
-    /// One place more that no thread has.
-    fn grow(&mut self) -> Result<(), AllocError>
-        ensures { self.new ≡ self.old }
-    {
-        self.blocks.push(Waiter {
-            event: Event::Lock,
-            thread: 0,
-            class: Class::Cpu,
-            due: None,
-        })?;
-        self.limits.add()?;
-        self.queues.add_id()?;
-        buckets::add_place(self.alloc, &mut self.buckets, &self.queues, &self.blocks)?;
-        let id = self.alive.add_id()?;
-        self.alive.push_back(FREE, id);
         Ok(())
     }
 
@@ -177,17 +165,52 @@ impl Slots {
         ensures { result
             ≡ option_map (λ w. w.thread) (find (λ w. is_event w.event event) (queue_at self.now 4)) }
     {
-        let bucket = buckets::bucket_of(self.buckets.list_count(), event);
-        first_of_bucket(&self.buckets, bucket, &self.blocks, event)
+        self.waiter_at(event, 0)
     }
 
-    /// The threads that wait for an event, in the order of waiting, among others of its bucket.
-    pub fn bucket(&self, alloc: Global, event: Event) -> Result<Vec<Waiter>, AllocError>
-        ensures { IfOk result
-            (λ v. filter (λ w. is_event w.event event) v.items ≡ filter (λ w. is_event w.event event) (queue_at self.now 4)) }
+    /// The thread at a position among those that wait for an event, in the order of waiting.
+    pub fn waiter_at(&self, event: Event, position: u32) -> Option<ThreadNo>
+        ensures { result
+            ≡ slice_get (threads_of (filter (λ w. is_event w.event event) (queue_at self.now 4))) position }
     {
         let bucket = buckets::bucket_of(self.buckets.list_count(), event);
-        listed(alloc, &self.buckets, bucket, &self.blocks)
+        thread_at(&self.buckets, bucket, &self.blocks, Some(event), position)
+    }
+
+    /// The thread at a position of a queue.
+    pub fn thread_at(&self, queue: u32, position: u32) -> Option<ThreadNo>
+        requires { queue < 6 }
+        ensures { result ≡ slice_get (threads_of (queue_at self.now queue)) position }
+    {
+        thread_at(&self.queues, queue, &self.blocks, None, position)
+    }
+
+    /// What is known of a thread in a queue.
+    pub fn waiter(&self, queue: u32, thread: ThreadNo) -> Waiter
+        requires { 0 < times thread (threads_of (queue_at self.now queue)) }
+        ensures { find (λ w. w.thread == thread) (queue_at self.now queue) ≡ Some result }
+    {
+        let Some(id) = self.numbers.get(&thread) else {
+            unreachable!()
+        };
+        self.blocks[*id as usize]
+    }
+
+    /// The first of a queue, in an order, behind this one.
+    pub fn first_behind(&self, queue: u32, order: Order, from: Option<Waiter>) -> Option<Waiter>
+        requires { queue < 6 }
+        ensures { IsLeast (comes_before order) (behind (comes_before order) from (queue_at self.now queue)) result }
+    {
+        order::first_behind(&self.queues, queue, &self.blocks, order, from)
+    }
+
+    /// The live thread with the least number above this one.
+    pub fn thread_behind(&self, thread: Option<ThreadNo>) -> Option<ThreadNo>
+        ensures { IsLeast nat_lt (behind nat_lt thread self.now.live) result }
+    {
+        let from = numbered(thread);
+        let found = order::first_behind(&self.alive, LIVE, &self.blocks, Order::Number, from)?;
+        Some(found.thread)
     }
 
     /// Whether a thread stands in a queue.
@@ -200,19 +223,20 @@ impl Slots {
         }
     }
 
+    /// The queue that a thread stands in, if it stands in one.
+    pub fn home(&self, thread: ThreadNo) -> Option<u32>
+        ensures queue { IfSome result (λ q. 0 < times thread (threads_of (queue_at self.now q))) }
+        ensures apart { IfNone result (IsApart self.now thread) }
+    {
+        let id = self.numbers.get(&thread)?;
+        self.queues.home(*id)
+    }
+
     /// Whether a thread lives.
     pub fn lives(&self, thread: ThreadNo) -> bool
         ensures { IsTrue result ↔ (0 < times thread self.now.live) }
     {
         self.numbers.get(&thread).is_some()
-    }
-
-    /// A queue, from its head on.
-    pub fn list(&self, alloc: Global, queue: u32) -> Result<Vec<Waiter>, AllocError>
-        requires { queue < 6 }
-        ensures { IfOk result (λ v. v.items ≡ queue_at self.now queue) }
-    {
-        listed(alloc, &self.queues, queue, &self.blocks)
     }
 
     /// The first of all limits of threads in queues.
@@ -233,42 +257,55 @@ fn is_home(home: Option<u32>, list: u32) -> bool
     }
 }
 
-/// The blocks of a list of ids, from its front on.
-fn listed(
-    alloc: Global,
+/// The thread at a position among the blocks of a list of ids, of which those are counted that wait for an event, if one is named.
+fn thread_at(
     lists: &Lists,
     list: u32,
     blocks: &[Waiter],
-) -> Result<Vec<Waiter>, AllocError>
-    requires there { list < list_count lists.now }
-    requires blocks { (x : ℕ) → has x (list_at lists.now list) ≡ true → x < length blocks.now }
-    ensures { IfOk result (λ v. v.items ≡ map (block_at blocks.now) (list_at lists.now list)) }
-{
-    let mut out = Vec::new(alloc);
-    let mut at = lists.front(list);
-    while let Some(id) = at {
-        out.push(blocks[id as usize])?;
-        at = lists.next(id);
-    }
-    Ok(out)
-}
-
-/// The thread of the first block for an event in a list of ids.
-fn first_of_bucket(lists: &Lists, list: u32, blocks: &[Waiter], event: Event) -> Option<ThreadNo>
+    event: Option<Event>,
+    position: u32,
+) -> Option<ThreadNo>
     requires there { list < list_count lists.now }
     requires blocks { (x : ℕ) → has x (list_at lists.now list) ≡ true → x < length blocks.now }
     ensures { result
-        ≡ option_map (λ w. w.thread) (find (λ w. is_event w.event event) (map (block_at blocks.now) (list_at lists.now list))) }
+        ≡ slice_get (threads_of (filter (counts event) (map (block_at blocks.now) (list_at lists.now list)))) position }
 {
+    let mut left = position;
     let mut at = lists.front(list);
     while let Some(id) = at {
         let waiter = blocks[id as usize];
-        if same_event(waiter.event, event) {
-            return Some(waiter.thread);
+        if counts(event, waiter) {
+            if left == 0 {
+                return Some(waiter.thread);
+            }
+            left -= 1;
         }
         at = lists.next(id);
     }
     None
+}
+
+/// Whether a thread waits for the event, if one is named.
+fn counts(event: Option<Event>, waiter: Waiter) -> bool
+    ensures { result ≡ counts event waiter }
+{
+    match event {
+        Some(event) => same_event(waiter.event, event),
+        None => true,
+    }
+}
+
+/// A thread of this number, if there is one.
+fn numbered(thread: Option<ThreadNo>) -> Option<Waiter>
+    ensures { option_map (λ w. w.thread) result ≡ thread }
+{
+    let thread = thread?;
+    Some(Waiter {
+        event: Event::Lock,
+        thread,
+        class: Class::Cpu,
+        due: None,
+    })
 }
 
 /// When a thread in a queue is due: never in a ready queue, and always where it sleeps.

@@ -9,9 +9,9 @@ use Rattle.ids_base.specs.declared.class.Class.{Class}
 use Rattle.ids_base.specs.declared.class.Class.TheVariants.{Cpu, Lio, Pio, Aio}
 use Rattle.vp_classes.specs.declared.request.IoRequest.{IoRequest}
 use Rattle.vp_classes.specs.declared.request.IoRequest.TheVariants.{LogFlush, ClearFile, PhysFlush, Page, Clean, Checkpoint}
-use Rattle.vp_classes.specs.Asked.{is_same, is_queued, taker, IsInRange}
+use Rattle.vp_classes.specs.Asked.{is_same, is_queued, queue, taker, IsInRange}
 use Rattle.vp_classes.specs.Marks.{one_if, mark, is_taker, marked, limit, IsThere, Sets, no_marks}
-use Rattle.vp_classes.specs.Queued.{times, IsMarked, HeadIsThere, asked_of}
+use Rattle.vp_classes.specs.Queued.{times, IsMarked, IsKept, HeadIsThere, asked_of}
 use Rattle.vp_classes.specs.declared.queues.Requests.TheInside.{Inside}
 use Rattle.vp_classes.specs.declared.marks.Marks.{Marks}
 
@@ -69,6 +69,15 @@ queued-mark m class q r k t = split (mark m r) refl
     split : (b : Bool) → mark m r ≡ b → is_queued r q ≡ mark m r
     split true e = any-some r q (omega (arith, count, ap one_if e)) ∙ sym e
     split false e = any-none r q (omega (arith, count, ap one_if e)) ∙ sym e
+
+-- the same of the class that takes the request
+pub taker-mark : (a : Inside) (r : IoRequest) → IsKept a → is_queued r (queue (asked_of a) (taker r)) ≡ mark a.marks r
+taker-mark a LogFlush k = queued-mark a.marks Lio a.lio.items LogFlush k.lio refl
+taker-mark a ClearFile k = queued-mark a.marks Lio a.lio.items ClearFile k.lio refl
+taker-mark a PhysFlush k = queued-mark a.marks Pio a.pio.items PhysFlush k.pio refl
+taker-mark a (Page p) k = queued-mark a.marks Aio a.aio.items (Page p) k.aio refl
+taker-mark a (Clean f) k = queued-mark a.marks Aio a.aio.items (Clean f) k.aio refl
+taker-mark a Checkpoint k = queued-mark a.marks Aio a.aio.items Checkpoint k.aio refl
 
 -- a request is asked for that was not queued
 own-new : (m n : Marks) (class : Class) (q : List IoRequest) (r : IoRequest) → IsMarked m class q → is_taker class r ≡ true → mark m r ≡ false → Sets m n r true → IsMarked n class (q ++ r ∷ [])

@@ -3,7 +3,8 @@ ghost use Rattle.std.specs.Prelude.{◌≡◌, [], IfOk, false};
 ghost use Rattle.vp_classes.specs.Marks.{mark, IsThere, Sets, no_marks};
 
 use crate::request::IoRequest;
-use std::alloc::{AllocError, Global};
+use ids_base::memory::Memory;
+use std::alloc::Global;
 
 /// Which requests are queued.
 #[derive(Drop)]
@@ -17,8 +18,8 @@ pub struct Marks {
 }
 
 impl Marks {
-    /// No request is marked.
-    pub fn new(alloc: Global, pages: u32, frames: u32) -> Result<Self, AllocError>
+    /// No request is marked. Answers `Memory` where there is none for the marks.
+    pub fn new(alloc: Global, pages: u32, frames: u32) -> Result<Self, Memory>
         ensures { IfOk result (λ m. no_marks m pages frames) }
     {
         Ok(Self {

@@ -1,14 +1,15 @@
 //! The queues of the classes.
-ghost use Rattle.std.specs.Prelude.{◌≡◌, ◌<◌, ◌++◌, ◌∷◌, [], ◌↔◌, ℕ, true, false, if◌then◌else◌, drop, slice_get, IfOk, IsTrue, MatchOption};
+ghost use Rattle.std.specs.Prelude.{◌≡◌, ◌≢◌, ◌<◌, ◌++◌, ◌∷◌, [], ◌↔◌, ℕ, true, false, if◌then◌else◌, drop, slice_get, IfOk, IsTrue, MatchOption};
 ghost use Rattle.std.specs.VecDeque.{deque_len, deque_capacity};
-ghost use Rattle.vp_classes.specs.Asked.{IsTaken, none_asked, asked, next_of, taken};
+ghost use Rattle.vp_classes.specs.Asked.{IsInRange, IsTaken, queue, taker, is_queued, none_asked, asked, next_of, taken};
 ghost use Rattle.vp_classes.specs.Marks.{mark, IsThere, Sets};
 ghost use Rattle.vp_classes.specs.Queued.{HeadIsThere};
 
 use crate::marks::Marks;
 use crate::request::IoRequest;
 use ids_base::class::Class;
-use std::alloc::{AllocError, Global};
+use ids_base::memory::Memory;
+use std::alloc::Global;
 use std::collections::VecDeque;
 use std::marker::Model;
 
@@ -39,8 +40,9 @@ impl Model for Requests {
 impl Requests {
     /// Every queue empty, for data pages 1 to `pages` and frames below `frames`.
     ///
-    /// Takes room for a request for each page, one for each frame and one of each other kind; no later call takes any.
-    pub fn new(alloc: Global, pages: u32, frames: u32) -> Result<Self, AllocError>
+    /// Takes room for a request for each page, one for each frame and one of each other kind, and time in proportion to
+    /// it; no later call takes any. Answers `Memory` where there is none.
+    pub fn new(alloc: Global, pages: u32, frames: u32) -> Result<Self, Memory>
         ensures { IfOk result (λ r. r ≡ none_asked pages frames) }
     {
         let lio = VecDeque::with_capacity(alloc, 2)?;
@@ -67,6 +69,26 @@ impl Requests {
         ensures { result ≡ self.now.frames }
     {
         self.marks.frames.len()
+    }
+
+    /// Whether a class has a request. Takes constant time.
+    pub fn has_request(&self, class: Class) -> bool
+        ensures { IsTrue result ↔ (queue self.now class ≢ []) }
+    {
+        match class {
+            Class::Cpu => false,
+            Class::Lio => !self.lio.is_empty(),
+            Class::Pio => !self.pio.is_empty(),
+            Class::Aio => !self.aio.is_empty(),
+        }
+    }
+
+    /// Whether a request stands in the queue of the class that takes it. Takes constant time.
+    pub fn is_queued(&self, request: IoRequest) -> bool
+        requires { IsInRange self.now request }
+        ensures { result ≡ is_queued request (queue self.now (taker request)) }
+    {
+        self.marks.get(request)
     }
 
     /// Asks a class for a piece of work, which goes to the end of the class's queue. A request that stands there already
@@ -157,7 +179,10 @@ mod tests {
             (Class::Pio, None),
             (Class::Cpu, None),
         ];
+        assert!(rt; requests.is_queued(IoRequest::Page(3)));
+        assert!(rt; !requests.is_queued(IoRequest::Page(2)));
         for (class, request) in wanted {
+            assert_eq!(rt; requests.has_request(class), request.is_some());
             assert_eq!(rt; requests.next(class), request);
         }
         assert_eq!(rt; (requests.pages(), requests.frames()), (3, 2));

@@ -23,4 +23,6 @@ invariant_of-self c =
     record {
       counted = subst IsCounted (sym e) (counted-dispatched p c.args.vp class (subst (λ (x : Placed). c.args.vp < length x.running) (sym c.self.view_is) c.requires.there) (subst (λ (x : Placed). running_at x c.args.vp ≡ None) (sym c.self.view_is) c.requires.free) c.self.invariant.counted);
       six = ap (λ (s : Slotted). length s.queues) c.pop-thread.ensures.rest ∙ length-set a.slots.queues _ _ ∙ c.self.invariant.six;
+      few = c.self.invariant.few;
+      live = c.self.invariant.live ∙ sym (ap (λ (s : Slotted). length s.live) (c.pop-thread.ensures.rest));
     }

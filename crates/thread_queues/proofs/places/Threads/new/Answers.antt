@@ -1,4 +1,4 @@
-use Rattle.std.proofs.Common.{◌≡◌, ◌+◌, ◌∙◌, ℕ, Option, None, length, map, replicate, ap, arith}
+use Rattle.std.proofs.Common.{◌≡◌, ◌+◌, ◌∙◌, ℕ, Option, None, length, map, replicate, ap, arith, sym}
 use Rattle.thread_queues.specs.Slotted.{Slotted}
 use Rattle.thread_queues.specs.Shown.{sleeper, ready_of}
 use Rattle.thread_queues.specs.Slotted.{queue_at}
@@ -12,4 +12,6 @@ invariant_of-result c =
     record {
       counted = counted-idle _ (ap (λ (s : Slotted). s.live) none) (ap ready_of none) (ap (λ (s : Slotted). queue_at s 4) none) (ap (λ (s : Slotted). map sleeper (queue_at s 5)) none) (c.loop.invariant.empty ∙ ap (λ (n : ℕ). replicate {A = Option ℕ} n None) whole);
       six = ap (λ (s : Slotted). length s.queues) none;
+      few = c.requires;
+      live = sym (ap (λ (s : Slotted). length s.live) none);
     }

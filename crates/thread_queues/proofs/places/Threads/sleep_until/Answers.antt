@@ -45,6 +45,8 @@ invariant_of-self c =
     record {
       counted = subst IsCounted (sym e) (counted-sleeps p c.args.vp t (sleeper (record { event = Lock; thread = t; class = c.of_processor.result; due = Some c.args.tick })) refl c.self.invariant.counted at);
       six = ap (λ (s : Slotted). length s.queues) c.put.ensures ∙ length-set a.slots.queues 5 _ ∙ c.self.invariant.six;
+      few = c.self.invariant.few;
+      live = c.self.invariant.live ∙ sym (ap (λ (s : Slotted). length s.live) (c.put.ensures));
     }
 
 pub returns-in-Some : goal.returns-in-Some

@@ -1,4 +1,4 @@
-use Rattle.std.proofs.Common.{◌≡◌, ◌<◌, ◌++◌, ◌∷◌, ◌∙◌, [], ℕ, length, sym, ap, subst}
+use Rattle.std.proofs.Common.{◌≡◌, ◌<◌, ◌++◌, ◌∷◌, ◌∙◌, [], ℕ, length, length-append, sym, ap, subst, arith}
 use Rattle.std.proofs.lemmas.List.{length-set}
 use Rattle.thread_queues.specs.Placed.{Placed, times, readied, spawned}
 use Rattle.thread_queues.specs.Slotted.{Slotted, with_thread, put_in, IsApart}
@@ -16,7 +16,7 @@ put-requires-clause-lives c =
 pub put-requires-clause-apart : goal.put-requires-clause-apart
 put-requires-clause-apart c =
     let a = c.self.inside in
-    let new = subst (λ (x : Placed). times c.args.thread x.live ≡ 0) (sym c.self.view_is) c.requires in
+    let new = subst (λ (x : Placed). times c.args.thread x.live ≡ 0) (sym c.self.view_is) c.requires.new in
     let none = absent (placed_of a) c.args.thread c.self.invariant.counted new in
     subst (λ (n : ℕ). IsApart c.add.new.self n) (sym c.ready_waiter.ensures) (subst (λ (s : Slotted). IsApart s c.args.thread) (sym c.in_ok-add.ensures.added) (apart-six (with_thread a.slots c.args.thread) c.self.invariant.six c.args.thread none.0 none.1 none.2))
 
@@ -25,7 +25,7 @@ invariant_of-self-2 c =
     let a = c.self.inside in
     let t = c.args.thread in
     let rw = c.ready_waiter.result in
-    let new = subst (λ (x : Placed). times c.args.thread x.live ≡ 0) (sym c.self.view_is) c.requires in
+    let new = subst (λ (x : Placed). times c.args.thread x.live ≡ 0) (sym c.self.view_is) c.requires.new in
     let slots = c.put.ensures ∙ ap (λ (s : Slotted). put_in s c.ready_queue.result rw) c.in_ok-add.ensures.added in
     let e = ap (λ (s : Slotted). shown a.cpu a.tick s a.running.items) slots ∙ ap (λ (q : ℕ). shown a.cpu a.tick (put_in (with_thread a.slots t) q rw) a.running.items) c.ready_queue.ensures.queue
     ∙ ready-shown a.cpu a.tick (a.slots.live ++ t ∷ []) a.running.items a.slots.queues c.self.invariant.six c.args.class rw
@@ -33,6 +33,8 @@ invariant_of-self-2 c =
     record {
       counted = subst IsCounted (sym e) (counted-spawned (placed_of a) t c.args.class new c.self.invariant.counted);
       six = ap (λ (s : Slotted). length s.queues) slots ∙ length-set a.slots.queues _ _ ∙ c.self.invariant.six;
+      few = c.self.invariant.few;
+      live = omega (arith, c.self.invariant.live, ap (λ (s : Slotted). length s.live) (slots), length-append a.slots.live (t ∷ []));
     }
 
 pub returns-clause-spawned : goal.returns-clause-spawned

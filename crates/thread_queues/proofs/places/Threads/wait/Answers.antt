@@ -44,6 +44,8 @@ invariant_of-self c =
     record {
       counted = subst IsCounted (sym e) (counted-waits p c.args.vp t (record { event = c.args.event; thread = t; class = c.of_processor.result; due = c.args.due }) refl c.self.invariant.counted at);
       six = ap (λ (s : Slotted). length s.queues) c.put.ensures ∙ length-set a.slots.queues 4 _ ∙ c.self.invariant.six;
+      few = c.self.invariant.few;
+      live = c.self.invariant.live ∙ sym (ap (λ (s : Slotted). length s.live) (c.put.ensures));
     }
 
 pub returns-in-Some : goal.returns-in-Some

@@ -34,6 +34,8 @@ invariant_of-self c =
     record {
       counted = subst IsCounted (sym e) (waits-counted a.cpu a.tick a.slots a.running.items c.self.invariant.six c.self.invariant.counted c.args.thread c.take-waiter.result c.take-waiter.ensures.waiter);
       six = ap (λ (s : Slotted). length s.queues) slots ∙ length-set (taken_from a.slots 4 c.args.thread).queues _ _ ∙ length-set a.slots.queues _ _ ∙ c.self.invariant.six;
+      few = c.self.invariant.few;
+      live = c.self.invariant.live ∙ sym (ap (λ (s : Slotted). length s.live) (slots));
     }
 
 pub returns : goal.returns

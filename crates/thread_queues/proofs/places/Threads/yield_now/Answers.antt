@@ -44,6 +44,8 @@ invariant_of-self c =
     record {
       counted = subst IsCounted (sym e) (counted-yielded p c.args.vp t c.of_processor-class.result c.self.invariant.counted at);
       six = ap (λ (s : Slotted). length s.queues) c.put.ensures ∙ length-set a.slots.queues _ _ ∙ c.self.invariant.six;
+      few = c.self.invariant.few;
+      live = c.self.invariant.live ∙ sym (ap (λ (s : Slotted). length s.live) (c.put.ensures));
     }
 
 pub returns-in-Some : goal.returns-in-Some

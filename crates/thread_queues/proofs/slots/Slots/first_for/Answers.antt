@@ -1,32 +1,9 @@
-use Rattle.std.proofs.Common.{◌==◌, ◌∙◌, ◌<◌, ℕ, List, length, map, nat_eq, ap, sym, option_map, refl, subst}
-use Rattle.std.specs.HashMap.{get}
-use Rattle.std.specs.List.{find}
-use Rattle.std.proofs.lemmas.Bool.{eq-eqb}
-use Rattle.link_lists.specs.Lists.{list_at, list_count}
+use Rattle.std.proofs.Common.{◌∙◌}
 use Rattle.thread_queues.specs.declared.event.Waiter.{Waiter}
 use Rattle.thread_queues.specs.Events.{is_event}
-use Rattle.thread_queues.specs.Slotted.{Slotted, queue_at}
-use Rattle.thread_queues.specs.Laid.{block_at, bucket_of}
-use Rattle.thread_queues.proofs.Bucketing.{same-bucket, find-filter}
-use Rattle.thread_queues.proofs.Laying.{bucket-places}
-use Rattle.thread_queues.proofs.Moving.{map-lists}
+use Rattle.thread_queues.specs.Slotted.{queue_at}
+use Rattle.thread_queues.proofs.Bucketing.{first-passing}
 use Rattle.thread_queues.proofs.slots.Slots.first_for.Goals as goal
 
-pub first_of_bucket-requires-clause-blocks : goal.first_of_bucket-requires-clause-blocks
-first_of_bucket-requires-clause-blocks c =
-    let a = c.self.inside in
-    λ x h. subst (λ (ws : List Waiter). x < length ws) (sym c.deref.ensures.value) (bucket-places a.alive a.queues a.buckets a.blocks.items a.limits (get nat_eq a.numbers) c.self.invariant c.bucket_of-bucket.result x h)
-
 pub returns : goal.returns
-returns c =
-    let a = c.self.inside in
-    let test = λ (w : Waiter). is_event w.event c.args.event in
-    let b = bucket_of (list_count a.buckets) c.args.event in
-    c.first_of_bucket.ensures
-    ∙ ap (λ (ws : List Waiter). option_map (λ (w : Waiter). w.thread) (find test (map (block_at ws) (list_at a.buckets c.bucket_of-bucket.result)))) c.deref.ensures.value
-    ∙ ap (λ (n : ℕ). option_map (λ (w : Waiter). w.thread) (find test (map (block_at a.blocks.items) (list_at a.buckets n)))) (c.bucket_of-bucket.ensures.bucket ∙ ap (λ (n : ℕ). bucket_of n c.args.event) c.list_count.ensures)
-    ∙ ap (option_map (λ (w : Waiter). w.thread)) (
-    ap (λ (xs : List ℕ). find test (map (block_at a.blocks.items) xs)) (c.self.invariant.bucketed.waiting b)
-    ∙ find-filter (block_at a.blocks.items) test (λ x. bucket_of (list_count a.buckets) (block_at a.blocks.items x).event == b) (list_at a.queues 4) (λ x h. eq-eqb (bucket_of (list_count a.buckets) (block_at a.blocks.items x).event) b (same-bucket (list_count a.buckets) (block_at a.blocks.items x).event c.args.event h))
-    ∙ ap (find test) (sym (map-lists (map (block_at a.blocks.items)) a.queues.lists 4 refl))
-    ∙ ap (λ (s : Slotted). find test (queue_at s 4)) c.self.view_is)
+returns c = c.waiter_at.ensures ∙ first-passing (λ (w : Waiter). is_event w.event c.args.event) (queue_at c.args.self.now 4)

@@ -1,4 +1,4 @@
-use Rattle.std.proofs.Common.{rules, ◌≡◌, ◌∙◌, ℕ, Option, None, Some, [], nat_eq, ap, sym, arith}
+use Rattle.std.proofs.Common.{rules, ◌≡◌, ◌∙◌, ℕ, Option, None, Some, [], length, nat_eq, ap, sym, arith}
 use Rattle.std.specs.HashMap.{get}
 use Rattle.std.proofs.lemmas.List.{get_or_past}
 use Rattle.thread_queues.specs.Firsts.{due_at}
@@ -22,10 +22,14 @@ invariant_of-result c =
       queues_sound = c.in_ok-queues.ensures.sound;
       alive_count = c.in_ok-alive.ensures.lists;
       queue_count = c.in_ok-queues.ensures.lists;
-      queues_room = omega (arith, no-ids);
-      buckets_room = omega (arith, no-ids);
-      blocks_room = omega (arith, no-ids);
-      limits_room = omega (arith, no-ids);
+      room = record {
+        queue_room = (omega (arith, no-ids), omega (arith, no-ids, c.in_ok-queues.ensures.no_ids));
+        bucket_room = (omega (arith, no-ids), omega (arith, no-ids, c.in_ok-buckets.ensures.no_places));
+        block_room = (omega (arith, no-ids), omega (arith, no-ids, ap length c.new-3.ensures.items));
+        limit_room = (omega (arith, no-ids), omega (arith, no-ids, ap length c.new-4.ensures));
+        full = omega (arith, no-ids, ap length (c.in_ok-alive.ensures.empty 0), ap length (c.in_ok-alive.ensures.empty 1));
+        few = omega (arith, no-ids);
+      };
       lives = λ x q e. absurd (none-some (queued x) e);
       found = λ t x. (λ e. absurd (none-some (lost t) e), λ r. absurd (none-some (living x) r.0));
       bucketed = none-bucketed c.in_ok-queues.queues c.in_ok-buckets.buckets c.new-3.result.items (c.in_ok-queues.ensures.empty 4) c.in_ok-buckets.ensures.wide c.in_ok-buckets.ensures.no_places c.in_ok-buckets.ensures.empty c.in_ok-buckets.ensures.sound;

@@ -8,7 +8,7 @@ use Rattle.thread_queues.specs.Placed.{times}
 use Rattle.thread_queues.specs.Slotted.{Slotted, queue_at, threads_of, taken_from}
 use Rattle.thread_queues.specs.Laid.{no_waiter, slotted, IsLaid}
 use Rattle.thread_queues.proofs.Laying.{queue-found, placed-at}
-use Rattle.thread_queues.proofs.Leaving.{take-laid, take-shown, take-found}
+use Rattle.thread_queues.proofs.Leaving.{take-laid, take-shown, found-there}
 use Rattle.thread_queues.proofs.slots.Slots.take.Goals as goal
 
 none-some : {x : ℕ} → None ≡ Some x → ⊥
@@ -62,7 +62,7 @@ returns-clause-waiter c =
     let at = placed-at _ _ _ _ _ _ c.self.invariant c.args.queue c.args.thread x (sym c.in-Some.ensures.value) (subst (λ (s : Slotted). 0 < times c.args.thread (threads_of (queue_at s c.args.queue))) (sym c.self.view_is) c.requires) in
     ap (λ (s : Slotted). find (λ (w : Waiter). w.thread == c.args.thread) (queue_at s c.args.queue)) (sym c.self.view_is)
     ∙ ap (λ (n : ℕ). find (λ (w : Waiter). w.thread == n) (queue_at (slotted a.alive a.queues a.blocks.items) c.args.queue)) (sym at.number)
-    ∙ take-found a.alive a.queues a.buckets a.blocks.items a.limits (get nat_eq a.numbers) c.self.invariant c.unlink.new.self c.take.new.buckets c.args.queue x at.here (record { list = c.unlink.ensures.list c.args.queue at.here; home = c.unlink.ensures.home; counts = c.unlink.ensures.counts; sound = c.unlink.ensures.sound }) (record { lists = c.take.ensures.lists; counts = c.take.ensures.counts; sound = c.take.ensures.sound })
+    ∙ found-there a.alive a.queues a.buckets a.blocks.items a.limits (get nat_eq a.numbers) c.self.invariant c.args.queue x at.here
     ∙ ap Some (get_or_default a.blocks.items x no_waiter c.index.result.now at.in_blocks ∙ sym c.index.ensures)
 
 pub returns-clause-rest : goal.returns-clause-rest
