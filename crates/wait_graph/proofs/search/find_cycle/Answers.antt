@@ -21,8 +21,6 @@ loop-at-preserved c =
     let low : c.loop-at.at < length old = omega (arith, l, t) in
     record {
       tree = c.in_ok-explore.ensures.tree;
-      bounded = c.in_ok-explore.ensures.bounded;
-      most = c.in_ok-explore.ensures.most ∙ i.most;
       within = (let l = c.in_ok-explore.ensures.longer.length_grows in omega (arith, l, low));
       closed = closed-more next c.args.asked.now.start old new c.loop-at.at low c.in_ok-explore.ensures.longer i.closed (c.in_ok-explore.ensures.closed (ap Ok c.if-branch.false));
       lines = c.in_ok-explore.ensures.lines;
