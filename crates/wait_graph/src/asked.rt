@@ -6,9 +6,9 @@ ghost use Rattle.lock_table.specs.Sound.{IsSound};
 ghost use Rattle.wait_graph.specs.Targets.{queue_at, name_waited};
 
 use ids_base::lock::{LockEntry, LockMode, LockName, same_name};
+use ids_base::memory::Memory;
 use ids_base::numbers::ThreadNo;
 use lock_table::{Entries, Locks};
-use ids_base::memory::Memory;
 use std::alloc::Global;
 
 /// A request: its thread, its name, and the name's queue with the request in its place.

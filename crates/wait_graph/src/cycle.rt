@@ -6,9 +6,9 @@ ghost use Rattle.wait_graph.specs.Queued.{ClosesCycle};
 use crate::asked::ask;
 use crate::search::find_cycle;
 use ids_base::lock::{LockMode, LockName};
+use ids_base::memory::Memory;
 use ids_base::numbers::ThreadNo;
 use lock_table::Locks;
-use ids_base::memory::Memory;
 use std::alloc::Global;
 
 /// The cycle of threads that the request would close if it waited, looked at as if it stood in its queue: it begins with the

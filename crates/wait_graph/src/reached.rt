@@ -10,10 +10,10 @@ ghost use Rattle.wait_graph.specs.Reached.{IsAt, HasSpots, HasLines, StandsIn, K
 
 use crate::asked::{Asked, holders_of, name_waited, queue_at};
 use ids_base::lock::{LockEntry, LockName};
+use ids_base::memory::Memory;
 use ids_base::numbers::ThreadNo;
 use indexmap::IndexMap;
 use lock_table::Locks;
-use ids_base::memory::Memory;
 use std::alloc::Global;
 
 /// Where a thread waits: the number of its line, and its place in it.

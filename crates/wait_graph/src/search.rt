@@ -10,10 +10,10 @@ ghost use Rattle.ids_base.specs.declared.lock.LockEntry.{LockEntry as Entry};
 use crate::asked::Asked;
 use crate::reached::{Reached, Spot, spot_of};
 use ids_base::lock::{LockEntry, LockMode, compatible};
+use ids_base::memory::Memory;
 use ids_base::numbers::ThreadNo;
 use indexmap::IndexSet;
 use lock_table::Locks;
-use ids_base::memory::Memory;
 use std::alloc::Global;
 
 // The threads found, in the order of finding, and for each the place of the one that it was found from.
