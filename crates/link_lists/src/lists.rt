@@ -1,9 +1,10 @@
 //! Lists of ids, as callers see them.
-ghost use Rattle.std.specs.Prelude.{◌≡◌, ◌≢◌, ℕ, ◌+◌, ◌<◌, [], ◌∷◌, ◌++◌, true, false, Some, None, IsSome, IfOk, OnOk, OnErr, MatchOption};
+ghost use Rattle.std.specs.Prelude.{◌≡◌, ◌≢◌, ℕ, ◌+◌, ◌<◌, ◌≤◌, [], ◌∷◌, ◌++◌, true, false, Some, None, IsSome, IfOk, OnOk, OnErr, MatchOption};
 ghost use Rattle.link_lists.specs.Lists.{list_at, home_at, list_count, id_count, ListBecomes, HomeBecomes, SameCounts, SameLists, put_before, without, first_of, behind, IsSound};
 
 use crate::web::{HEAD, Web};
-use std::alloc::{AllocError, Global};
+use ids_base::memory::Memory;
+use std::alloc::Global;
 use std::marker::Model;
 
 /// A fixed number of doubly linked lists of ids, all over one slab. Contracts see the list of lists of ids, and for each id
@@ -30,8 +31,9 @@ impl Model for Lists {
 }
 
 impl Lists {
-    /// So many empty lists, and no id. It takes memory in proportion to the number of lists.
-    pub fn new(alloc: Global, lists: u32) -> Result<Lists, AllocError>
+    /// So many empty lists, and no id. It takes time and memory in proportion to the number of lists; `Memory` where there is none.
+    pub fn new(alloc: Global, lists: u32) -> Result<Lists, Memory>
+        requires { lists ≤ 2147483648 }
         ensures lists { IfOk result (λ v. list_count v ≡ lists) }
         ensures empty { IfOk result (λ v. (l : ℕ) → list_at v l ≡ []) }
         ensures no_ids { IfOk result (λ v. id_count v ≡ 0) }
@@ -42,8 +44,9 @@ impl Lists {
         })
     }
 
-    /// One id more, in no list: the number of ids before. Where there is no memory, all is as it was.
-    pub fn add_id(&mut self) -> Result<u32, AllocError>
+    /// One id more, in no list: the number of ids before. `Memory` where there is none, and all is then as it was.
+    pub fn add_id(&mut self) -> Result<u32, Memory>
+        requires { id_count self.old < 2147483648 }
         ensures id { IfOk result (λ id. id ≡ id_count self.old) }
         ensures more { OnOk result (id_count self.new ≡ id_count self.old + 1) }
         ensures err { OnErr result (id_count self.new ≡ id_count self.old) }
@@ -206,9 +209,11 @@ mod tests {
         number
     }
 
-    fn made(alloc: Global, lists: u32, ids: u32) -> Result<Lists, AllocError> {
+    fn made(rt: &impl Abort, alloc: Global, lists: u32, ids: u32) -> Result<Lists, Memory> {
+        assert!(rt; lists < 8);
         let mut made = Lists::new(alloc, lists)?;
         for _ in 0..ids {
+            assert!(rt; made.id_count() < 8);
             made.add_id()?;
         }
         Ok(made)
@@ -239,7 +244,7 @@ mod tests {
 
     #[test]
     fn puts_ids(rt: HostRuntime) -> Result<(), Fail> {
-        let mut lists = made(rt.alloc(), 2, 6)?;
+        let mut lists = made(&rt, rt.alloc(), 2, 6)?;
         assert_eq!(rt; lists.list_count(), 2);
         assert_eq!(rt; lists.id_count(), 6);
         back(&rt, &mut lists, 0, 1);
@@ -260,7 +265,7 @@ mod tests {
 
     #[test]
     fn takes_ids(rt: HostRuntime) -> Result<(), Fail> {
-        let mut lists = made(rt.alloc(), 2, 6)?;
+        let mut lists = made(&rt, rt.alloc(), 2, 6)?;
         for id in 1..5 {
             back(&rt, &mut lists, 0, id);
         }
@@ -282,7 +287,7 @@ mod tests {
 
     #[test]
     fn empties_a_list(rt: HostRuntime) -> Result<(), Fail> {
-        let mut lists = made(rt.alloc(), 1, 1)?;
+        let mut lists = made(&rt, rt.alloc(), 1, 1)?;
         back(&rt, &mut lists, 0, 0);
         assert!(rt; lists.list_count() == 1);
         assert_eq!(rt; lists.pop_front(0), Some(0));

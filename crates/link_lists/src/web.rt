@@ -5,8 +5,9 @@ ghost use Rattle.std.specs.Prelude.{◌≡◌, ◌≢◌, ℕ, ◌+◌, ◌<◌,
 ghost use Rattle.link_lists.specs.Places.{slot_of, is_place, head_place};
 ghost use Rattle.link_lists.specs.Nodes.{EachHasNode};
 
+use ids_base::memory::Memory;
 use slab::Slab;
-use std::alloc::{AllocError, Global};
+use std::alloc::Global;
 
 /// The place of the first list's head; ids and lists are fewer.
 pub const HEAD: u32 = 2147483648;
@@ -43,14 +44,12 @@ impl Web {
     ghost use Rattle.link_lists.specs.Web.{next_of, prev_of, home_of, SameNext, SamePrev, SameHome, SameCounts, IsLinked, IsTakenOut};
 
     /// Heads for so many lists, all empty, and no id.
-    pub fn new(alloc: Global, lists: u32) -> Result<Web, AllocError>
+    pub fn new(alloc: Global, lists: u32) -> Result<Web, Memory>
+        requires { lists ≤ 2147483648 }
         ensures counts { IfOk result (λ w. (w.ids ≡ 0) × (w.lists ≡ lists)) }
         ensures next { IfOk result (λ w. (l : ℕ) → l < lists → next_of w (head_place l) ≡ head_place l) }
         ensures prev { IfOk result (λ w. (l : ℕ) → l < lists → prev_of w (head_place l) ≡ head_place l) }
     {
-        if lists > HEAD {
-            return Err(AllocError);
-        }
         let mut nodes = Slab::new(alloc);
         for list in 0..lists {
             let place = HEAD + list;
@@ -60,10 +59,10 @@ impl Web {
                 home: None,
             };
             if nodes.vacant_key() != list as usize {
-                return Err(AllocError);
+                return Err(Memory);
             }
             if nodes.insert(head).is_err() {
-                return Err(AllocError);
+                return Err(Memory);
             }
         }
         Ok(Web {
@@ -74,7 +73,8 @@ impl Web {
     }
 
     /// One id more, the number of ids before, in no list.
-    pub fn add_id(&mut self) -> Result<u32, AllocError>
+    pub fn add_id(&mut self) -> Result<u32, Memory>
+        requires { self.old.ids < 2147483648 }
         ensures id { IfOk result (λ id. (id ≡ self.old.ids) × (id < 2147483648)) }
         ensures more { OnOk result (self.new.ids ≡ self.old.ids + 1) }
         ensures same_ids { OnErr result (self.new.ids ≡ self.old.ids) }
@@ -84,12 +84,9 @@ impl Web {
         ensures home { SameHome self.old self.new }
     {
         let id = self.ids;
-        if id >= HEAD {
-            return Err(AllocError);
-        }
         // A slab from which nothing is removed gives its keys in order.
         if self.nodes.vacant_key() != self.lists as usize + id as usize {
-            return Err(AllocError);
+            return Err(Memory);
         }
         let node = Node {
             prev: 0,
@@ -97,7 +94,7 @@ impl Web {
             home: None,
         };
         if self.nodes.insert(node).is_err() {
-            return Err(AllocError);
+            return Err(Memory);
         }
         self.ids = id + 1;
         Ok(id)

@@ -1,10 +1,10 @@
-pub mod Copied
 pub mod Counts
 pub mod Filters
 pub mod Grants
 pub mod Keeping
 pub mod Lines
 pub mod Names
+pub mod Ordered
 pub mod Searching
 pub mod Settling
 pub mod Table

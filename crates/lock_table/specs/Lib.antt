@@ -4,6 +4,7 @@ pub mod Chains
 pub mod Inside
 pub mod Kept
 pub mod Moves
+pub mod Order
 pub mod Props
 pub mod Requests
 pub mod Sound

@@ -1,7 +1,9 @@
+pub mod Copies
 pub mod Edges
 pub mod Loads
 pub mod Named
 pub mod Places
+pub mod Requests
 pub mod Scans
 pub mod Standing
 pub mod Trees

@@ -1,12 +1,14 @@
 -- Trees of threads found along waits.
-use Rattle.std.proofs.Common.{◌≡◌, ◌≢◌, ◌∙◌, sym, ap, subst, refl, ℕ, zero, suc, ◌+◌, ◌<◌, ◌==◌, Bool, true, false, if◌then◌else◌, nat_eq, ◌||◌, List, [], ◌∷◌, ◌++◌, length, reverse, slice_index, arith, ◌⊎◌, inl, inr}
+use Rattle.std.proofs.Common.{◌≡◌, ◌≢◌, ◌∙◌, sym, ap, subst, refl, ℕ, zero, suc, ◌+◌, ◌<◌, ◌≤◌, ◌==◌, Bool, true, false, if◌then◌else◌, nat_eq, ◌||◌, List, [], ◌∷◌, ◌++◌, length, reverse, slice_index, arith, ◌⊎◌, inl, inr}
 use Rattle.std.proofs.lemmas.Bool.Decides.{eqb_tells, Decides-eqb}
 use Rattle.std.proofs.lemmas.Bool.{ne_eqb}
 use Rattle.std.proofs.lemmas.List.{length_push, reverse-append}
 use Rattle.std.specs.List.{list_any}
 use Rattle.indexmap.specs.IndexSet.{insert_key}
 use Rattle.ids_base.specs.Waits.{WaitInTurn}
-use Rattle.wait_graph.specs.Cycles.{IsCycle, Once}
+use Rattle.link_lists.specs.Lists.{Once}
+use Rattle.link_lists.proofs.Members.{once-few}
+use Rattle.wait_graph.specs.Cycles.{IsCycle}
 use Rattle.wait_graph.specs.Targets.{among}
 use Rattle.wait_graph.specs.Search.{Waits, IsTree, IsClosedAt, IsLonger}
 
@@ -73,13 +75,17 @@ longer-push xs y = record { length_grows = (let e = length_push xs y in omega (a
 
 -- one thread more
 pub tree-push : (next : ℕ → List ℕ) (start : ℕ) (found parents : List ℕ) (from b : ℕ) → IsTree next start found parents → from < length found → Waits next (slice_index found from) b
-    → among b found ≡ false → IsTree next start (found ++ b ∷ []) (parents ++ from ∷ [])
-tree-push next start found parents from b t lt w out = record {
+    → among b found ≡ false → b < 4294967296 → IsTree next start (found ++ b ∷ []) (parents ++ from ∷ [])
+tree-push next start found parents from b t lt w out small = record {
   same_length = length_push parents from ∙ ap (λ n. n + 1) t.same_length ∙ sym (length_push found b);
   some = let e = length_push found b in omega (arith, e);
   first = push-old found b 0 t.some ∙ t.first;
   parent = λ j pos low. elim (split j low) as (λ v. (slice_index (parents ++ from ∷ []) j < j) × Waits next (slice_index (found ++ b ∷ []) (slice_index (parents ++ from ∷ []) j)) (slice_index (found ++ b ∷ []) j))
       [ inl old ↦ old-parent j pos old | inr e ↦ subst (λ k. (slice_index (parents ++ from ∷ []) k < k) × Waits next (slice_index (found ++ b ∷ []) (slice_index (parents ++ from ∷ []) k)) (slice_index (found ++ b ∷ []) k)) (sym e) new-parent ];
+  numbers = λ j low. elim (split j low) as (λ v. slice_index (found ++ b ∷ []) j < 4294967296) [
+    | inl old ↦ subst (λ n. n < 4294967296) (sym (push-old found b j old)) (t.numbers j old)
+    | inr e ↦ subst (λ n. n < 4294967296) (sym (ap (slice_index (found ++ b ∷ [])) e ∙ push-new found b)) small
+  ];
   apart = λ j k jk low e. elim (split k low) as (λ v. ⊥) [
     | inl old ↦ t.apart j k jk old (sym (push-old found b j (omega arith)) ∙ e ∙ push-old found b k old)
     | inr f ↦ let jl : j < length found = omega (arith, f, jk) in
@@ -182,3 +188,15 @@ among-longer b old new l h = let p = among-place b old h in
 
 pub closed-longer : (next : ℕ → List ℕ) (start : ℕ) (old new : List ℕ) (j : ℕ) → j < length old → IsLonger old new → IsClosedAt next start old j → IsClosedAt next start new j
 closed-longer next start old new j lt l c b w = let q = c b (subst (λ n. Waits next n b) (l.same j lt) w) in (q.0, among-longer b old new l q.1)
+
+-- ---- threads have different numbers below 2 ^ 32, so they are few
+apart-once : (xs : List ℕ) → ((j k : ℕ) → j < k → k < length xs → slice_index xs j ≢ slice_index xs k) → Once xs
+apart-once [] f = tt
+apart-once (x ∷ xs) f = (
+  not-among x xs (λ h. let p = among-place x xs h in f 0 (suc p.0) (omega arith) (let q = p.1 in omega (arith, q)) (sym p.2)),
+  apart-once xs (λ j k jk low. f (suc j) (suc k) (omega (arith, jk)) (omega (arith, low))),
+)
+
+pub tree-few : (next : ℕ → List ℕ) (start : ℕ) (found parents : List ℕ) → IsTree next start found parents → length found ≤ 4294967296
+tree-few next start found parents t =
+    once-few found 4294967296 (apart-once found t.apart) (λ q h. let p = among-place q found h in subst (λ n. n < 4294967296) p.2 (t.numbers p.0 p.1))

@@ -8,12 +8,13 @@ ghost use Rattle.wait_graph.specs.Targets.{next as next_of, queue_at};
 ghost use Rattle.wait_graph.specs.Search.{Waits};
 ghost use Rattle.wait_graph.specs.Reached.{IsAt, HasSpots, HasLines, StandsIn, KeepsScanned};
 
-use crate::asked::{Asked, name_waited, queue_at};
+use crate::asked::{Asked, holders_of, name_waited, queue_at};
 use ids_base::lock::{LockEntry, LockName};
+use ids_base::memory::Memory;
 use ids_base::numbers::ThreadNo;
 use indexmap::IndexMap;
 use lock_table::Locks;
-use std::alloc::{AllocError, Global};
+use std::alloc::Global;
 
 /// Where a thread waits: the number of its line, and its place in it.
 #[derive(Clone, Copy, Debug, PartialEq, Eq)]
@@ -52,7 +53,7 @@ fn add_spots(
     line: &[LockEntry],
     number: usize,
     first: usize,
-) -> Result<(), AllocError>
+) -> Result<(), Memory>
     ensures old_or_new { OnOk result ((a : ℕ) (s : Spot) → get nat_eq spots.new a ≡ Some s → HasSpots spots.old line.now number first a s) }
     ensures all { OnOk result ((k : ℕ) (e : Entry) → first ≤ k → IsAt line.now k e → IsSome (get nat_eq spots.new e.thread)) }
 {
@@ -69,14 +70,14 @@ fn load(
     locks: &Locks,
     asked: &Asked,
     name: LockName,
-) -> Result<(), AllocError>
+) -> Result<(), Memory>
     requires asked { IsAsked locks.now asked.now }
     requires lines { HasLines (next_of locks.now asked.now) reached.old }
     ensures lines { OnOk result (HasLines (next_of locks.now asked.now) reached.new) }
     ensures scanned { OnOk result (KeepsScanned reached.old reached.new) }
     ensures all { OnOk result ((a : ℕ) → has_thread a (queue_at locks.now asked.now name) ≡ true → IsSome (get nat_eq reached.new.spots a)) }
 {
-    let mut line = locks.holders(alloc, name)?;
+    let mut line = holders_of(alloc, locks, name)?;
     let first = line.len();
     let queue = queue_at(alloc, locks, asked, name)?;
     line.extend_from_slice(queue.as_slice())?;
@@ -94,7 +95,7 @@ pub fn spot_of(
     locks: &Locks,
     asked: &Asked,
     thread: ThreadNo,
-) -> Result<Option<Spot>, AllocError>
+) -> Result<Option<Spot>, Memory>
     requires asked { IsAsked locks.now asked.now }
     requires lines { HasLines (next_of locks.now asked.now) reached.old }
     ensures lines { OnOk result (HasLines (next_of locks.now asked.now) reached.new) }

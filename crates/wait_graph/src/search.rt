@@ -10,17 +10,17 @@ ghost use Rattle.ids_base.specs.declared.lock.LockEntry.{LockEntry as Entry};
 use crate::asked::Asked;
 use crate::reached::{Reached, Spot, spot_of};
 use ids_base::lock::{LockEntry, LockMode, compatible};
+use ids_base::memory::Memory;
 use ids_base::numbers::ThreadNo;
 use indexmap::IndexSet;
 use lock_table::Locks;
-use std::alloc::{AllocError, Global};
+use std::alloc::Global;
 
-// The threads found, in the order of finding, and for each the place of the one that it was found from. There are at most `most`.
+// The threads found, in the order of finding, and for each the place of the one that it was found from.
 #[derive(Drop)]
 struct Found {
     threads: IndexSet<ThreadNo>,
     parents: Vec<usize>,
-    most: usize,
 }
 
 // Whether a thread is among these. It costs one hash look.
@@ -37,22 +37,16 @@ fn add(
     asked: &Asked,
     from: usize,
     thread: ThreadNo,
-) -> Result<(), AllocError>
+) -> Result<(), Memory>
     requires tree { IsTree (next_of locks.now asked.now) asked.now.start found.old.threads.keys found.old.parents.items }
     requires from { from < length found.old.threads.keys }
     requires waits { Waits (next_of locks.now asked.now) (slice_index found.old.threads.keys from) thread }
-    requires bounded { length found.old.threads.keys ≤ found.old.most }
     ensures tree { OnOk result (IsTree (next_of locks.now asked.now) asked.now.start found.new.threads.keys found.new.parents.items) }
     ensures there { OnOk result (among thread found.new.threads.keys ≡ true) }
     ensures longer { OnOk result (IsLonger found.old.threads.keys found.new.threads.keys) }
-    ensures bounded { OnOk result (length found.new.threads.keys ≤ found.new.most) }
-    ensures most { found.new.most ≡ found.old.most }
 {
     if is_among(thread, &found.threads) {
         return Ok(());
-    }
-    if found.threads.len() >= found.most {
-        return Err(AllocError);
     }
     found.threads.insert(thread)?;
     found.parents.push(from)?;
@@ -83,17 +77,14 @@ fn look_at(
     at: usize,
     waiter: LockEntry,
     entry: LockEntry,
-) -> Result<bool, AllocError>
+) -> Result<bool, Memory>
     requires tree { IsTree (next_of locks.now asked.now) asked.now.start found.old.threads.keys found.old.parents.items }
     requires at { at < length found.old.threads.keys }
     requires waits { IsAgainst waiter.thread waiter.mode entry → Waits (next_of locks.now asked.now) (slice_index found.old.threads.keys at) entry.thread }
-    requires bounded { length found.old.threads.keys ≤ found.old.most }
     ensures tree { OnOk result (IsTree (next_of locks.now asked.now) asked.now.start found.new.threads.keys found.new.parents.items) }
     ensures closes { result ≡ Ok true → Waits (next_of locks.now asked.now) (slice_index found.old.threads.keys at) asked.now.start }
     ensures found { result ≡ Ok false → IsAgainst waiter.thread waiter.mode entry → IsFound asked.now.start found.new.threads.keys entry }
     ensures longer { OnOk result (IsLonger found.old.threads.keys found.new.threads.keys) }
-    ensures bounded { OnOk result (length found.new.threads.keys ≤ found.new.most) }
-    ensures most { found.new.most ≡ found.old.most }
 {
     if entry.thread == waiter.thread || compatible(waiter.mode, entry.mode) {
         return Ok(false);
@@ -116,19 +107,16 @@ fn add_against(
     line: &[LockEntry],
     from: usize,
     to: usize,
-) -> Result<bool, AllocError>
+) -> Result<bool, Memory>
     requires start { slice_index found.old.threads.keys 0 ≡ asked.now.start }
     requires tree { IsTree (next_of locks.now asked.now) asked.now.start found.old.threads.keys found.old.parents.items }
     requires at { at < length found.old.threads.keys }
     requires waits { (j : ℕ) (e : Entry) → j < to → IsAt line.now j e → IsAgainst waiter.thread waiter.mode e → Waits (next_of locks.now asked.now) (slice_index found.old.threads.keys at) e.thread }
     requires inside { to ≤ length line.now }
-    requires bounded { length found.old.threads.keys ≤ found.old.most }
     ensures tree { OnOk result (IsTree (next_of locks.now asked.now) asked.now.start found.new.threads.keys found.new.parents.items) }
     ensures closes { result ≡ Ok true → Waits (next_of locks.now asked.now) (slice_index found.old.threads.keys at) asked.now.start }
     ensures closed { result ≡ Ok false → AgainstFound asked.now.start found.new.threads.keys waiter.thread waiter.mode line.now from to }
     ensures longer { OnOk result (IsLonger found.old.threads.keys found.new.threads.keys) }
-    ensures bounded { OnOk result (length found.new.threads.keys ≤ found.new.most) }
-    ensures most { found.new.most ≡ found.old.most }
 {
     for k in from..to {
         if look_at(found, locks, asked, at, waiter, line[k])? {
@@ -147,11 +135,10 @@ fn scan(
     asked: &Asked,
     spot: Spot,
     at: usize,
-) -> Result<bool, AllocError>
+) -> Result<bool, Memory>
     requires start { slice_index found.old.threads.keys 0 ≡ asked.now.start }
     requires tree { IsTree (next_of locks.now asked.now) asked.now.start found.old.threads.keys found.old.parents.items }
     requires at { at < length found.old.threads.keys }
-    requires bounded { length found.old.threads.keys ≤ found.old.most }
     requires lines { HasLines (next_of locks.now asked.now) reached.old }
     requires stands { StandsIn (next_of locks.now asked.now) reached.old (slice_index found.old.threads.keys at) spot }
     requires scanned { AreScanned asked.now.start found.old.threads.keys reached.old }
@@ -159,8 +146,6 @@ fn scan(
     ensures closes { result ≡ Ok true → Waits (next_of locks.now asked.now) (slice_index found.old.threads.keys at) asked.now.start }
     ensures closed { result ≡ Ok false → IsClosedAt (next_of locks.now asked.now) asked.now.start found.new.threads.keys at }
     ensures longer { OnOk result (IsLonger found.old.threads.keys found.new.threads.keys) }
-    ensures bounded { OnOk result (length found.new.threads.keys ≤ found.new.most) }
-    ensures most { found.new.most ≡ found.old.most }
     ensures lines { OnOk result (HasLines (next_of locks.now asked.now) reached.new) }
     ensures scanned { result ≡ Ok false → AreScanned asked.now.start found.new.threads.keys reached.new }
 {
@@ -187,20 +172,17 @@ fn explore(
     locks: &Locks,
     asked: &Asked,
     at: usize,
-) -> Result<bool, AllocError>
+) -> Result<bool, Memory>
     requires asked { IsAsked locks.now asked.now }
     requires start { slice_index found.old.threads.keys 0 ≡ asked.now.start }
     requires tree { IsTree (next_of locks.now asked.now) asked.now.start found.old.threads.keys found.old.parents.items }
     requires at { at < length found.old.threads.keys }
-    requires bounded { length found.old.threads.keys ≤ found.old.most }
     requires lines { HasLines (next_of locks.now asked.now) reached.old }
     requires scanned { AreScanned asked.now.start found.old.threads.keys reached.old }
     ensures tree { OnOk result (IsTree (next_of locks.now asked.now) asked.now.start found.new.threads.keys found.new.parents.items) }
     ensures closes { result ≡ Ok true → Waits (next_of locks.now asked.now) (slice_index found.old.threads.keys at) asked.now.start }
     ensures closed { result ≡ Ok false → IsClosedAt (next_of locks.now asked.now) asked.now.start found.new.threads.keys at }
     ensures longer { OnOk result (IsLonger found.old.threads.keys found.new.threads.keys) }
-    ensures bounded { OnOk result (length found.new.threads.keys ≤ found.new.most) }
-    ensures most { found.new.most ≡ found.old.most }
     ensures lines { OnOk result (HasLines (next_of locks.now asked.now) reached.new) }
     ensures scanned { result ≡ Ok false → AreScanned asked.now.start found.new.threads.keys reached.new }
 {
@@ -218,7 +200,7 @@ fn path_to(
     locks: &Locks,
     asked: &Asked,
     last: usize,
-) -> Result<Vec<ThreadNo>, AllocError>
+) -> Result<Vec<ThreadNo>, Memory>
     requires tree { IsTree (next_of locks.now asked.now) (slice_index found.now.threads.keys 0) found.now.threads.keys found.now.parents.items }
     requires last { last < length found.now.threads.keys }
     requires closes { Waits (next_of locks.now asked.now) (slice_index found.now.threads.keys last) (slice_index found.now.threads.keys 0) }
@@ -240,7 +222,7 @@ pub fn find_cycle(
     alloc: Global,
     locks: &Locks,
     asked: &Asked,
-) -> Result<Option<Vec<ThreadNo>>, AllocError>
+) -> Result<Option<Vec<ThreadNo>>, Memory>
     requires { IsAsked locks.now asked.now }
     ensures found { IfOk result (λ o. IfSome o (λ v. IsCycle (Waits (next_of locks.now asked.now)) asked.now.start v.items)) }
     ensures none { result ≡ Ok None → (threads : List ℕ) → IsCycle (Waits (next_of locks.now asked.now)) asked.now.start threads → ⊥ }
@@ -249,12 +231,7 @@ pub fn find_cycle(
     threads.insert(asked.start)?;
     let mut parents = Vec::new(alloc);
     parents.push(0)?;
-    let most = (locks.entry_count() as usize).saturating_add(1);
-    let mut found = Found {
-        threads,
-        parents,
-        most,
-    };
+    let mut found = Found { threads, parents };
     let mut reached = Reached::new(alloc);
     let mut at = 0;
     while at < found.threads.len() {

@@ -12,4 +12,4 @@ returns-clause-tree c =
     let start = c.args.asked.now.start in
     subst (λ v. IsTree next start v c.push.new.self.items) (sym (c.in_ok-insert.ensures.keys ∙ insert-new c.args.thread f.threads.keys out))
     (subst (λ v. IsTree next start (f.threads.keys ++ c.args.thread ∷ []) v) (sym c.in_ok-push.ensures.items)
-    (tree-push next start f.threads.keys f.parents.items c.args.from c.args.thread c.requires.tree c.requires.from c.requires.waits out))
+    (tree-push next start f.threads.keys f.parents.items c.args.from c.args.thread c.requires.tree c.requires.from c.requires.waits out c.ranges.thread.fits))

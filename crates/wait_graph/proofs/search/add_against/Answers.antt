@@ -11,8 +11,6 @@ loop-k-preserved c =
     record {
       tree = c.in_ok-look_at.ensures.tree;
       longer = longer-then _ _ _ i.longer c.in_ok-look_at.ensures.longer;
-      bounded = c.in_ok-look_at.ensures.bounded;
-      most = c.in_ok-look_at.ensures.most ∙ i.most;
       done = against-next c.args.asked.now.start c.loop-k.found.threads.keys c.look_at.new.found.threads.keys c.args.waiter.thread c.args.waiter.mode line c.args.from c.loop-k.k _ i.done c.in_ok-look_at.ensures.longer
           (at-read line c.loop-k.k _ (let t = c.loop-k-test.true in let l = c.requires.inside in omega (arith, t, l))) (c.in_ok-look_at.ensures.found (ap Ok c.if-branch.false));
     }

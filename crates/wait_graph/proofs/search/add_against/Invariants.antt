@@ -8,7 +8,5 @@ abbrev pub invariant-loop-k : goal.invariant-loop-k
 invariant-loop-k l = record {
   tree : IsTree (next l.locks l.asked) l.asked.start l.found.threads.keys l.found.parents.items;
   longer : IsLonger l.initial.found.threads.keys l.found.threads.keys;
-  bounded : length l.found.threads.keys ≤ l.found.most;
-  most : l.found.most ≡ l.initial.found.most;
   done : AgainstFound l.asked.start l.found.threads.keys l.waiter.thread l.waiter.mode l.line l.from l.k;
 }

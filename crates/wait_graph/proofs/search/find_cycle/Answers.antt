@@ -2,7 +2,7 @@ use Rattle.std.proofs.Common.{◌≡◌, ◌∙◌, ◌<◌, ◌+◌, ℕ, sym, 
 use Rattle.std.proofs.lemmas.Bool.Decides.{eqb_tells}
 use Rattle.wait_graph.specs.Targets.{next as next_of, among}
 use Rattle.wait_graph.specs.Search.{IsClosedAt, IsLonger}
-use Rattle.wait_graph.proofs.Trees.{none-closed, closed-longer, at-among}
+use Rattle.wait_graph.proofs.Trees.{none-closed, closed-longer, at-among, tree-few}
 use Rattle.wait_graph.proofs.search.find_cycle.Goals as goal
 
 closed-more : (next : ℕ → List ℕ) (start : ℕ) (old new : List ℕ) (n : ℕ) → n < length old → IsLonger old new → ((j : ℕ) → j < n → IsClosedAt next start old j) → IsClosedAt next start new n → (j : ℕ) → j < n + 1 → IsClosedAt next start new j
@@ -21,8 +21,6 @@ loop-at-preserved c =
     let low : c.loop-at.at < length old = omega (arith, l, t) in
     record {
       tree = c.in_ok-explore.ensures.tree;
-      bounded = c.in_ok-explore.ensures.bounded;
-      most = c.in_ok-explore.ensures.most ∙ i.most;
       within = (let l = c.in_ok-explore.ensures.longer.length_grows in omega (arith, l, low));
       closed = closed-more next c.args.asked.now.start old new c.loop-at.at low c.in_ok-explore.ensures.longer i.closed (c.in_ok-explore.ensures.closed (ap Ok c.if-branch.false));
       lines = c.in_ok-explore.ensures.lines;
@@ -37,3 +35,10 @@ returns-clause-none c = λ h threads cycle.
     let far = c.loop-at-test.false in let len = c.len.ensures.len in
     none-closed next c.args.asked.now.start found (λ j lt. i.closed j (omega (arith, far, len, lt)))
     (subst (λ n. among n found ≡ true) i.tree.first (at-among found 0 i.tree.some)) threads cycle
+
+pub loop-at-smaller : goal.loop-at-smaller
+loop-at-smaller c =
+    let few = tree-few (next_of c.args.locks.now c.args.asked.now) c.args.asked.now.start c.loop-at.found.threads.keys c.loop-at.found.parents.items c.loop-at.invariant.tree in
+    let l = c.len.ensures.len in
+    let t = c.loop-at-test.true in
+    omega (arith, few, l, t)

