@@ -1,3 +1,4 @@
+pub mod ChangeRecords
 pub mod CatalogueGrows
 pub mod CatalogueRefuses
 pub mod CatalogueStarts

@@ -1,6 +1,7 @@
 -- Records in order, and what stands after them.
-use Rattle.std.proofs.Common.{◌≡◌, ℕ, suc, ◌+◌, ◌<◌, ◌==◌, Bool, true, false, cond, List, [], ◌∷◌, ◌++◌, length, map, take, get_or, Option, Some, None, refl, sym, ◌∙◌, ap, subst, arith, eq-eqb, ◌&&◌, zero}
+use Rattle.std.proofs.Common.{◌≡◌, ℕ, suc, ◌+◌, ◌<◌, ◌==◌, Bool, true, false, cond, List, [], ◌∷◌, ◌++◌, length, take, drop, Option, Some, None, refl, sym, ◌∙◌, ap, subst, arith, eq-eqb, ◌&&◌, zero}
 use Rattle.std.proofs.Math.Dec.{leb-zero}
+use Rattle.std.proofs.lemmas.List.{take-append-drop}
 use Rattle.std.specs.Prelude.{option_and_then, nat_le}
 use Rattle.log_records.specs.Entries.{Entry, Begin, Commit, Rollback, HInsert, HDelete, HUpdate, Ckpoint}
 use Rattle.ids_model.specs.Recovered.{SlotChange, State, run, AreOf, of_tx, note, noted, others, kept, inserted, deleted, updated}
@@ -45,31 +46,28 @@ module _ (pages : ℕ) where
     greatest = two.greatest ∙ ap (λ (n : ℕ). greatest_after n ys) one.greatest ∙ sym (greatest-append p.last_tx xs ys);
   }
 
--- an element of a mapped list stands between the front and the rest
-map-split : {A B : Type 0} (f : A → B) (xs : List A) (i : ℕ) (d : A) → i < length (map f xs) → (rest : List B) × (map f xs ≡ take i (map f xs) ++ f (get_or xs i d) ∷ rest)
-map-split f [] i d lt = absurd (omega (arith, lt))
-map-split f (x ∷ xs) zero d lt = (map f xs, refl)
-map-split f (x ∷ xs) (suc i) d lt = let more = map-split f xs i d (omega (arith, lt)) in (more.0, ap (λ l. f x ∷ l) more.1)
+-- the next of what is left stands between the front and the rest
+pub left-split : {A : Type 0} (xs : List A) (i : ℕ) (x : A) (rest : List A) → drop i xs ≡ x ∷ rest → xs ≡ take i xs ++ x ∷ rest
+left-split xs i x rest e = sym (take-append-drop i xs) ∙ ap (λ l. take i xs ++ l) e
 
-take-map : {A B : Type 0} (f : A → B) (xs : List A) (i : ℕ) (d : A) → i < length (map f xs) → take (suc i) (map f xs) ≡ take i (map f xs) ++ f (get_or xs i d) ∷ []
-take-map f [] i d lt = absurd (omega (arith, lt))
-take-map f (x ∷ xs) zero d lt = refl
-take-map f (x ∷ xs) (suc i) d lt = ap (λ l. f x ∷ l) (take-map f xs i d (omega (arith, lt)))
+take-left : {A : Type 0} (xs : List A) (i : ℕ) (x : A) (rest : List A) → drop i xs ≡ x ∷ rest → take (suc i) xs ≡ take i xs ++ x ∷ []
+take-left [] zero x rest e = absurd cc
+take-left [] (suc i) x rest e = absurd cc
+take-left (y ∷ ys) zero x rest e = cc
+take-left (y ∷ ys) (suc i) x rest e = ap (λ l. y ∷ l) (take-left ys i x rest e)
 
-module _ {A B : Type 0} (f : A → B) (xs : List A) (ys : List B) (i : ℕ) (r : A) (are : map f xs ≡ ys) (is : r ≡ get_or xs i r) (lt : i < length ys) where
-  below : i < length (map f xs)
-  below = subst (λ (l : List B). i < length l) (sym are) lt
+drop-left : {A : Type 0} (xs : List A) (i : ℕ) (x : A) (rest : List A) → drop i xs ≡ x ∷ rest → drop (suc i) xs ≡ rest
+drop-left [] zero x rest e = absurd cc
+drop-left [] (suc i) x rest e = absurd cc
+drop-left (y ∷ ys) zero x rest e = cc
+drop-left (y ∷ ys) (suc i) x rest e = drop-left ys i x rest e
 
-  pub mapped-split : (rest : List B) × (ys ≡ take i ys ++ f r ∷ rest)
-  mapped-split =
-      let split = map-split f xs i r below in
-      (split.0, subst (λ (l : List B). l ≡ take i l ++ f r ∷ split.0) are (split.1 ∙ ap (λ a. take i (map f xs) ++ f a ∷ split.0) (sym is)))
+-- and one more is in front of the others
+pub left-take : {A : Type 0} (xs : List A) (i : ℕ) (x : A) (rest : List A) → drop i xs ≡ x ∷ rest → take (i + 1) xs ≡ take i xs ++ x ∷ []
+left-take xs i x rest e = let next : i + 1 ≡ suc i = omega arith in ap (λ n. take n xs) next ∙ take-left xs i x rest e
 
-  pub mapped-take : take (i + 1) ys ≡ take i ys ++ f r ∷ []
-  mapped-take =
-      let e : i + 1 ≡ suc i = omega arith in
-      subst (λ (l : List B). take (i + 1) l ≡ take i l ++ f r ∷ []) are
-      (ap (λ n. take n (map f xs)) e ∙ take-map f xs i r below ∙ ap (λ a. take i (map f xs) ++ f a ∷ []) (sym is))
+pub left-drop : {A : Type 0} (xs : List A) (i : ℕ) (x : A) (rest : List A) → drop i xs ≡ x ∷ rest → drop (i + 1) xs ≡ rest
+left-drop xs i x rest e = let next : i + 1 ≡ suc i = omega arith in ap (λ n. drop n xs) next ∙ drop-left xs i x rest e
 
 eqb-eq : (a b : ℕ) → (a == b) ≡ true → a ≡ b
 eqb-eq a b h = grind (arith, h)

@@ -31,3 +31,4 @@ mod tests;
 
 pub use fault::OpenFault;
 pub use numbers::TableNumbers;
+pub use standing::TxChange;

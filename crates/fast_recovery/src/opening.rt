@@ -49,7 +49,7 @@ use ids_outside::{Disk, laws};
 use log_buffer::LogBuffer;
 use log_buffer::laws::appends_keep;
 use log_files::LogFiles;
-use log_records::record::Record;
+use log_records::view::RecordView;
 use std::alloc::Global;
 use std::marker::Brand;
 
@@ -239,7 +239,7 @@ fn note_end(replay: &mut Replay, open_tx: Option<TxNo>) -> Result<(), Memory>
     let Some(tx) = open_tx else {
         return Ok(());
     };
-    replay.note(&Record::Rollback { tx })
+    replay.note(&RecordView::Rollback { tx })
 }
 
 // The tables that pages and rows stand for.
@@ -289,8 +289,7 @@ fn close_log<D: Disk>(
     if opened.files.free() == 0 {
         return Err(OpenFault::LogFull);
     }
-    let entry = Record::Rollback { tx };
-    opened.buffer.append(&entry);
+    opened.buffer.append(RecordView::Rollback { tx });
     opened.buffer.flush(disk, &mut opened.files)?;
     Ok(())
 }

@@ -98,7 +98,7 @@ pub(crate) fn body(rt: &impl Abort, number: u64, records: &[Record]) -> BlockBod
 {
     let mut body = BlockBody::new(number);
     for entry in records {
-        let is_put = put(entry, &mut body);
+        let is_put = put(entry.view(), &mut body);
         assert!(rt; is_put);
     }
     assert!(rt; body.number() == number);

@@ -1,7 +1,7 @@
 //! What the records of a log say.
 ghost use Rattle.std.specs.Prelude.{◌≡◌, ◌<◌, ◌+◌, ◌^◌, [], ◌∷◌, IfOk, IfErr, OnOk, true, false, None};
 ghost use Rattle.std.specs.List.{AllByRecursion};
-ghost use Rattle.log_records.specs.Says.{entry_of};
+ghost use Rattle.log_records.specs.Viewed.{view_entry};
 ghost use Rattle.log_records.specs.Spelling.{IsEntry};
 ghost use Rattle.ids_model.specs.Recovered.{nothing};
 ghost use Rattle.fast_recovery.specs.Order.{open_by, starts, stays, ends};
@@ -19,7 +19,7 @@ use ids_base::position::LogPos;
 use ids_base::status::Place;
 use ids_model::recovery_laws::runs_join;
 use log_records::block_body::BlockBody;
-use log_records::record::Record;
+use log_records::view::RecordView;
 use std::alloc::Global;
 
 /// What the records so far say. Where a call answers an error, it is of no further use.
@@ -52,12 +52,7 @@ impl Past {
     }
 
     /// Goes on by the records of the next block, among the pages from 1 to this many.
-    pub(crate) fn note_body(
-        &mut self,
-        alloc: Global,
-        body: &BlockBody,
-        pages: u32,
-    ) -> Result<(), OpenFault>
+    pub(crate) fn note_body(&mut self, body: &BlockBody, pages: u32) -> Result<(), OpenFault>
         requires { self.old.next < 2 ^ 63 }
         ensures goes_on { OnOk result (GoesOn pages self.old body.now.entries self.new) }
         ensures next { OnOk result (self.new.next ≡ self.old.next + 1) }
@@ -66,9 +61,12 @@ impl Past {
     {
         runs_join();
         are_in_range(body);
-        let records = body.records(alloc)?;
+        let mut records = body.cursor();
         for index in 0..body.count() {
-            if !self.note(&records.as_slice()[index as usize], pages)? {
+            let Some(view) = records.next() else {
+                unreachable!()
+            };
+            if !self.note(&view, pages)? {
                 let block = self.next;
                 return Err(OpenFault::Damaged(Place::Record(LogPos { block, index })));
             }
@@ -78,20 +76,20 @@ impl Past {
     }
 
     // Goes on by a record; `false` exactly where it is out of order or not in its place, or does not rise.
-    fn note(&mut self, entry: &Record, pages: u32) -> Result<bool, Memory>
-        ensures noted { IfOk result (λ is_noted. is_noted ≡ true → GoesOn pages self.old (entry_of entry.now ∷ []) self.new) }
-        ensures refused { IfOk result (λ is_noted. is_noted ≡ false → is_taken pages self.old.last_tx self.old.open_tx self.old.replay.own (entry_of entry.now) ≡ false) }
+    fn note(&mut self, view: &RecordView, pages: u32) -> Result<bool, Memory>
+        ensures noted { IfOk result (λ is_noted. is_noted ≡ true → GoesOn pages self.old (view_entry view.now ∷ []) self.new) }
+        ensures refused { IfOk result (λ is_noted. is_noted ≡ false → is_taken pages self.old.last_tx self.old.open_tx self.old.replay.own (view_entry view.now) ≡ false) }
         ensures next { self.new.next ≡ self.old.next }
     {
-        let Some(open_tx) = open_after(self.open_tx, entry) else {
+        let Some(open_tx) = open_after(self.open_tx, view) else {
             return Ok(false);
         };
-        if !is_in_place(&self.replay, pages, entry) || !rises(self.last_tx, entry) {
+        if !is_in_place(&self.replay, pages, view) || !rises(self.last_tx, view) {
             return Ok(false);
         }
-        self.replay.note(entry)?;
+        self.replay.note(view)?;
         self.open_tx = open_tx;
-        self.last_tx = self.last_tx.max(entry.tx());
+        self.last_tx = self.last_tx.max(view.tx());
         Ok(true)
     }
 }
@@ -104,31 +102,29 @@ fn are_in_range(body: &BlockBody)
 }
 
 // Whether a record rises behind records whose greatest number is this: a BEGIN has a greater one.
-fn rises(last: TxNo, entry: &Record) -> bool
-    ensures { result ≡ rises last (entry_of entry.now) }
+#[tactic(auto, using(crate::proofs::ChangeRecords::changes_rise))]
+fn rises(last: TxNo, view: &RecordView) -> bool
+    ensures { result ≡ rises last (view_entry view.now) }
 {
-    match entry {
-        Record::Begin { tx, .. } => last < *tx,
-        Record::Commit { .. }
-        | Record::Rollback { .. }
-        | Record::HInsert { .. }
-        | Record::HDelete { .. }
-        | Record::HUpdate { .. }
-        | Record::Ckpoint { .. } => true,
+    match view {
+        RecordView::Begin { tx, .. } => last < *tx,
+        RecordView::Commit { .. }
+        | RecordView::Rollback { .. }
+        | RecordView::Change { .. }
+        | RecordView::Ckpoint { .. } => true,
     }
 }
 
 // Which transaction is open after a record, where this one was before; `None` where the record is out of order.
-fn open_after(before: Option<TxNo>, entry: &Record) -> Option<Option<TxNo>>
-    ensures { result ≡ open_by before (entry_of entry.now) }
+#[tactic(auto, using(crate::proofs::ChangeRecords::open_by_change))]
+fn open_after(before: Option<TxNo>, view: &RecordView) -> Option<Option<TxNo>>
+    ensures { result ≡ open_by before (view_entry view.now) }
 {
-    match entry {
-        Record::Begin { tx, .. } => started(before, *tx),
-        Record::Commit { tx } | Record::Rollback { tx } => ended(before, *tx),
-        Record::HInsert { tx, .. } | Record::HDelete { tx, .. } | Record::HUpdate { tx, .. } => {
-            stayed(before, *tx)
-        }
-        Record::Ckpoint { .. } => Some(before),
+    match view {
+        RecordView::Begin { tx, .. } => started(before, *tx),
+        RecordView::Commit { tx } | RecordView::Rollback { tx } => ended(before, *tx),
+        RecordView::Change { tx, .. } => stayed(before, *tx),
+        RecordView::Ckpoint { .. } => Some(before),
     }
 }
 

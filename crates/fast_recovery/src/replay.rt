@@ -1,21 +1,22 @@
 //! A log, record by record.
 ghost use Rattle.std.specs.Prelude.{◌≡◌, ◌↔◌, [], ◌∷◌, IfOk, OnOk, IsTrue, option_copied};
-ghost use Rattle.ids_base.specs.RowIds.{row_number};
-ghost use Rattle.log_records.specs.Says.{entry_of};
+ghost use Rattle.ids_base.specs.RowIds.{page_of, row_number};
 ghost use Rattle.log_records.specs.Entries as says;
-ghost use Rattle.ids_model.specs.Slots.{own_at, slot_at, set_slot, assign};
-ghost use Rattle.ids_model.specs.Recovered.{nothing, run, seen, of_tx, others, all_taken_back, deleted, updated};
+ghost use Rattle.log_records.specs.Viewed.{change_entry, view_entry};
+ghost use Rattle.ids_model.specs.Slots.{own_at, slot_at, set_own, set_slot, assign};
+ghost use Rattle.ids_model.specs.Recovered.{nothing, run, seen, of_tx, others, all_taken_back};
 ghost use Rattle.fast_recovery.specs.Changed.{changed};
 
 use crate::owner::Owner;
 use crate::owners::Owners;
 use crate::slots::FilledSlots;
-use crate::standing::{Change, Standing};
+use crate::standing::{Standing, TxChange};
 use ids_base::memory::Memory;
-use ids_base::numbers::{TableNo, TxNo};
+use ids_base::numbers::TxNo;
 use ids_base::row_bytes::RowBytes;
 use ids_base::row_id::RowId;
-use log_records::record::Record;
+use log_records::change::ChangeView;
+use log_records::view::RecordView;
 use std::alloc::Global;
 use std::marker::Model;
 
@@ -55,28 +56,14 @@ impl Replay {
 
     /// Goes on by a record. Logarithmic time and copies of the record's rows; COMMIT and ROLLBACK take time of the standing
     /// changes.
-    pub fn note(&mut self, record: &Record) -> Result<(), Memory>
-        ensures { OnOk result (self.new ≡ run self.old (entry_of record.now ∷ [])) }
+    pub fn note(&mut self, view: &RecordView) -> Result<(), Memory>
+        ensures { OnOk result (self.new ≡ run self.old (view_entry view.now ∷ [])) }
     {
-        match record {
-            Record::Begin { .. } | Record::Ckpoint { .. } => Ok(()),
-            Record::Commit { tx } => forget(self.alloc, &mut self.standing, *tx),
-            Record::Rollback { tx } => self.roll_back(*tx),
-            Record::HInsert {
-                tx,
-                table,
-                row,
-                after,
-            } => self.insert(*tx, *table, *row, after),
-            Record::HDelete {
-                tx,
-                row,
-                before,
-                ..
-            } => self.delete(*tx, *row, before),
-            Record::HUpdate { tx, row, rows, .. } => {
-                self.update(*tx, *row, &rows.before, &rows.after)
-            }
+        match view {
+            RecordView::Begin { .. } | RecordView::Ckpoint { .. } => Ok(()),
+            RecordView::Commit { tx } => forget(self.alloc, &mut self.standing, *tx),
+            RecordView::Rollback { tx } => self.roll_back(*tx),
+            RecordView::Change { tx, change } => self.change(*tx, change),
         }
     }
 
@@ -134,62 +121,36 @@ impl Replay {
         take_back_of(self.alloc, &mut self.slots, &mut self.standing, tx)
     }
 
-    // Puts a row, and gives its page to the table.
-    fn insert(
-        &mut self,
-        tx: TxNo,
-        table: TableNo,
-        row: RowId,
-        after: &RowBytes,
-    ) -> Result<(), Memory>
-        ensures { OnOk result (self.new ≡ run self.old (says.HInsert tx table (row_number row.page row.slot) after.now ∷ [])) }
+    // Makes a change; a row that is put into an empty slot gives its page to the table.
+    fn change(&mut self, tx: TxNo, change: &ChangeView) -> Result<(), Memory>
+        ensures { OnOk result (self.new ≡ run self.old (change_entry tx change.now ∷ [])) }
     {
-        let row_length = after.bytes().len() as u16;
-        self.owners.set(row.page, Owner { table, row_length })?;
-        let after = after.copy(self.alloc)?;
-        self.change(tx, row, None, Some(after))
+        match (change.before, change.after) {
+            (None, Some(row)) => {
+                let (table, row_length) = (change.table, row.len() as u16);
+                self.own(change.row, Owner { table, row_length })?;
+                self.stand(tx, change)
+            }
+            (Some(_), None) | (Some(_), Some(_)) => self.stand(tx, change),
+            (None, None) => unreachable!(),
+        }
     }
 
-    fn delete(&mut self, tx: TxNo, row: RowId, before: &RowBytes) -> Result<(), Memory>
-        ensures { OnOk result (self.new ≡ changed self.old (deleted tx (row_number row.page row.slot) before.now)) }
+    // Gives the page of a row to an owner.
+    fn own(&mut self, row: RowId, owner: Owner) -> Result<(), Memory>
+        ensures { OnOk result (self.new ≡ record self.old { own = set_own self.old.own (page_of (row_number row.page row.slot)) owner }) }
     {
-        let before = before.copy(self.alloc)?;
-        self.change(tx, row, Some(before), None)
+        self.owners.set(row.page, owner)
     }
 
-    fn update(
-        &mut self,
-        tx: TxNo,
-        row: RowId,
-        before: &RowBytes,
-        after: &RowBytes,
-    ) -> Result<(), Memory>
-        ensures { OnOk result (self.new ≡ changed self.old (updated tx (row_number row.page row.slot) before.now after.now)) }
+    // Makes a change in its slot, where it stands.
+    fn stand(&mut self, tx: TxNo, change: &ChangeView) -> Result<(), Memory>
+        ensures { OnOk result (self.new ≡ changed self.old (record { tx = tx; slot = row_number change.now.row.page change.now.row.slot; before = option_copied change.now.before; after = option_copied change.now.after })) }
     {
-        let before = before.copy(self.alloc)?;
-        let after = after.copy(self.alloc)?;
-        self.change(tx, row, Some(before), Some(after))
-    }
-
-    // Makes a change, which stands.
-    fn change(
-        &mut self,
-        tx: TxNo,
-        row: RowId,
-        before: Option<RowBytes>,
-        after: Option<RowBytes>,
-    ) -> Result<(), Memory>
-        ensures { OnOk result (self.new ≡ changed self.old (record { tx = tx; slot = row_number row.page row.slot; before = before; after = after })) }
-    {
-        let slot = row.number();
-        let copy = copy_of(self.alloc, &after)?;
-        self.slots.set(slot, copy)?;
-        self.standing.push(Change {
-            tx,
-            slot,
-            before,
-            after,
-        })
+        let change = change.to_change(self.alloc)?;
+        let after = copy_of(self.alloc, &change.after)?;
+        self.slots.set(change.row.number(), after)?;
+        self.standing.push(TxChange { tx, change })
     }
 }
 
@@ -203,10 +164,11 @@ fn copy_of(alloc: Global, row: &Option<RowBytes>) -> Result<Option<RowBytes>, Me
 }
 
 // Takes a change back.
-fn undo(slots: &mut FilledSlots, change: Change) -> Result<(), Memory>
-    ensures { OnOk result (slots.new ≡ set_slot slots.old change.slot change.before) }
+fn undo(slots: &mut FilledSlots, undone: TxChange) -> Result<(), Memory>
+    ensures { OnOk result (slots.new ≡ set_slot slots.old undone.slot undone.before) }
 {
-    slots.set(change.slot, change.before)
+    let change = undone.change;
+    slots.set(change.row.number(), change.before)
 }
 
 // Takes all changes back, the latest first.

@@ -50,7 +50,7 @@ pub(crate) fn read_log<D: Disk>(
             BlockRead::Absent => return Ok(past),
             BlockRead::Broken => return Err(OpenFault::Damaged(Place::Block(past.next))),
         };
-        past.note_body(alloc, &body, pages)?;
+        past.note_body(&body, pages)?;
     }
     Ok(past)
 }

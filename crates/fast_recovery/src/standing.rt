@@ -3,20 +3,20 @@ ghost use Rattle.std.specs.Prelude.{◌≡◌, ◌↔◌, [], ◌∷◌, OnOk, M
 
 use ids_base::memory::Memory;
 use ids_base::numbers::TxNo;
-use ids_base::row_bytes::RowBytes;
+use log_records::change::Change;
 use std::alloc::Global;
 use std::marker::Model;
 
-/// A change of a slot by a transaction: what stood there before it, and what stands there after it.
+/// A change of a slot by a transaction.
 #[derive(Drop)]
-pub struct Change {
+pub struct TxChange {
     pub tx: TxNo,
-    pub slot: u32,
-    pub before: Option<RowBytes>,
-    pub after: Option<RowBytes>,
+    pub change: Change,
 }
 
-impl Model for Change {
+impl Model for TxChange {
+    ghost use Rattle.std.specs.Prelude.{◌<◌};
+    ghost use Rattle.ids_base.specs.RowIds.{row_number};
     ghost use Rattle.ids_model.specs.Recovered.{SlotChange};
     ghost use Rattle.fast_recovery.specs.Codes.{coded_change};
 
@@ -24,14 +24,16 @@ impl Model for Change {
 
     ghost coded = { coded_change };
 
-    ghost view = { λ a. record { tx = a.tx; slot = a.slot; before = a.before; after = a.after } };
+    ghost invariant = { λ a. a.change.row.slot < 256 };
+
+    ghost view = { λ a. record { tx = a.tx; slot = row_number a.change.row.page a.change.row.slot; before = a.change.before; after = a.change.after } };
 }
 
 /// The standing changes. Contracts see the list of them, the latest first.
 #[derive(Drop)]
 pub struct Standing {
     // The latest is at the end.
-    changes: Vec<Change>,
+    changes: Vec<TxChange>,
 }
 
 impl Model for Standing {
@@ -54,7 +56,7 @@ impl Standing {
     }
 
     /// These changes, of which the latest is the first. Takes no memory; linear.
-    pub fn from_latest(changes: Vec<Change>) -> Standing
+    pub fn from_latest(changes: Vec<TxChange>) -> Standing
         ensures { result ≡ changes.items }
     {
         let mut changes = changes;
@@ -70,7 +72,7 @@ impl Standing {
     }
 
     /// A change after all the others. Amortised constant time.
-    pub fn push(&mut self, change: Change) -> Result<(), Memory>
+    pub fn push(&mut self, change: TxChange) -> Result<(), Memory>
         ensures { OnOk result (self.new ≡ change ∷ self.old) }
     {
         self.changes.push(change)?;
@@ -78,7 +80,7 @@ impl Standing {
     }
 
     /// Takes the latest change away. Takes no memory; constant time.
-    pub fn pop(&mut self) -> Option<Change>
+    pub fn pop(&mut self) -> Option<TxChange>
         ensures { MatchOption result ((self.old ≡ []) × (self.new ≡ [])) (λ c. self.old ≡ c ∷ self.new) }
     {
         self.changes.pop()

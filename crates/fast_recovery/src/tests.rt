@@ -74,7 +74,7 @@ fn catalogue_row() -> [u8; 359] {
 }
 
 fn go_on(replay: &mut Replay, record: Record) -> Result<(), Fail> {
-    replay.note(&record)?;
+    replay.note(&record.view())?;
     Ok(())
 }
 

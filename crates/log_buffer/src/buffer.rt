@@ -4,7 +4,7 @@ ghost use Rattle.ids_outside.specs.Counts.{HasCause};
 ghost use Rattle.ids_outside.specs.Images.{Image};
 ghost use Rattle.ids_outside.specs.Stops.{Leaves};
 ghost use Rattle.log_records.specs.Entries.{Entry};
-ghost use Rattle.log_records.specs.Says.{entry_of};
+ghost use Rattle.log_records.specs.Viewed.{view_entry};
 ghost use Rattle.log_records.specs.Spelling.{entry_size};
 ghost use Rattle.log_records.specs.Bodies.{Body};
 ghost use Rattle.log_files.specs.Files.{AreNumbered, Appends, IsReady, retained, taken};
@@ -16,7 +16,7 @@ use ids_base::position::LogPos;
 use ids_outside::{Disk, DiskFault};
 use log_files::LogFiles;
 use log_records::block_body::{BlockBody, put};
-use log_records::record::Record;
+use log_records::view::RecordView;
 use std::alloc::Global;
 use std::marker::Model;
 
@@ -77,21 +77,21 @@ impl LogBuffer {
 
     /// Puts a record at the end, and gives its place. Takes no memory; in time of the record's size, and of a block where one
     /// is begun.
-    pub fn append(&mut self, entry: &Record) -> LogPos
-        requires room { has_room self.old (entry_size (entry_of entry.now)) ≡ true }
+    pub fn append(&mut self, view: RecordView) -> LogPos
+        requires room { has_room self.old (entry_size (view_entry view)) ≡ true }
         requires number { self.old.first < 2 ^ 63 }
-        ensures appended { self.new ≡ appended self.old (entry_of entry.now) }
-        ensures place { result ≡ place_for self.old (entry_size (entry_of entry.now)) }
-        ensures waiting { waiting self.new ≡ waiting self.old ++ entry_of entry.now ∷ [] }
+        ensures appended { self.new ≡ appended self.old (view_entry view.entry) }
+        ensures place { result ≡ place_for self.old (entry_size (view_entry view.entry)) }
+        ensures waiting { waiting self.new ≡ waiting self.old ++ view_entry view.entry ∷ [] }
     {
-        let size = size_of(entry);
+        let size = view.size();
         let block = self.block_for(size);
         if self.fits_last(size) {
             let index = self.last_count();
-            self.join(entry);
+            self.join(view);
             LogPos { block, index }
         } else {
-            self.begin(entry);
+            self.begin(view);
             LogPos { block, index: 0 }
         }
     }
@@ -196,53 +196,35 @@ impl LogBuffer {
     }
 
     // Puts a record into the last block, where it fits.
-    fn join(&mut self, entry: &Record)
-        requires { fits_last self.old.blocks (entry_size (entry_of entry.now)) ≡ true }
-        ensures { self.new ≡ record self.old { blocks = joined self.old.blocks (entry_of entry.now) } }
+    fn join(&mut self, view: RecordView)
+        requires { fits_last self.old.blocks (entry_size (view_entry view)) ≡ true }
+        ensures { self.new ≡ record self.old { blocks = joined self.old.blocks (view_entry view.entry) } }
     {
-        let is_put = put(entry, &mut self.bodies[self.begun - 1]);
+        let is_put = put(view, &mut self.bodies[self.begun - 1]);
         prove!(is_put);
     }
 
     // Begins a block with a record.
-    fn begin(&mut self, entry: &Record)
+    fn begin(&mut self, view: RecordView)
         requires room { length self.old.blocks < 8 }
         requires number { self.old.first < 2 ^ 63 }
-        ensures { self.new ≡ record self.old { blocks = self.old.blocks ++ (entry_of entry.now ∷ []) ∷ [] } }
+        ensures { self.new ≡ record self.old { blocks = self.old.blocks ++ (view_entry view.entry ∷ []) ∷ [] } }
     {
         let number = self.first + self.begun as u64;
-        self.bodies[self.begun] = body_with(number, entry);
+        self.bodies[self.begun] = body_with(number, view);
         self.begun += 1;
     }
 }
 
 // A body with one record.
-fn body_with(number: u64, entry: &Record) -> BlockBody
-    ensures body { result ≡ record { number = number; entries = entry_of entry.now ∷ [] } }
-    ensures within { entry_size (entry_of entry.now) ≤ 2004 }
+fn body_with(number: u64, view: RecordView) -> BlockBody
+    ensures body { result ≡ record { number = number; entries = view_entry view.entry ∷ [] } }
+    ensures within { entry_size (view_entry view.entry) ≤ 2004 }
 {
-    let size = size_of(entry);
+    let size = view.size();
     prove!(size as usize <= 2004);
     let mut body = BlockBody::new(number);
-    let is_put = put(entry, &mut body);
+    let is_put = put(view, &mut body);
     prove!(is_put);
     body
-}
-
-// The size of a record, which fits into an empty block.
-fn size_of(entry: &Record) -> u16
-    ensures size { result ≡ entry_size (entry_of entry.now) }
-    ensures fits { result ≤ 2004 }
-{
-    match entry {
-        Record::Begin { .. } | Record::Commit { .. } | Record::Rollback { .. } => {}
-        Record::HInsert { after, .. } => prove!(after.bytes().len() <= 800),
-        Record::HDelete { before, .. } => prove!(before.bytes().len() <= 800),
-        Record::HUpdate { rows, .. } => {
-            prove!(rows.before.bytes().len() <= 800);
-            prove!(rows.after.bytes().len() <= 800);
-        }
-        Record::Ckpoint { named } => prove!(named.as_slice().len() <= 64),
-    }
-    entry.size()
 }

@@ -1,15 +1,17 @@
 -- Reading records one after another, as a loop does.
-use Rattle.std.proofs.Common.{◌≡◌, ℕ, suc, ◌-◌, ◌+◌, ◌≤◌, ◌<◌, Bool, true, false, cond, eqb, List, [], ◌∷◌, ◌++◌, length, Option, Some, None, refl, sym, ap, subst, ◌∙◌, append_assoc, arith}
+use Rattle.std.proofs.Common.{◌≡◌, ℕ, suc, ◌-◌, ◌+◌, ◌≤◌, ◌<◌, Bool, true, false, cond, eqb, List, [], ◌∷◌, length, Option, Some, None, refl, sym, ap, subst, ◌∙◌, arith}
 use Rattle.std.specs.Prelude.{is_some}
 use Rattle.std.specs.List.{AllByRecursion}
 use Rattle.std.proofs.lemmas.Option.{same_Some}
-use Rattle.std.proofs.lemmas.List.{append-nil, nil_from_length}
+use Rattle.std.proofs.lemmas.List.{nil_from_length}
 use Rattle.std.proofs.lemmas.List.Concat.{flat_map-cons}
 use Rattle.log_records.specs.Entries.{Entry}
 use Rattle.log_records.specs.Spelling.{entry_bytes, IsEntry}
 use Rattle.log_records.specs.Reading.{◌>>=◌, entry_at, entries_at}
 use Rattle.log_records.specs.Bodies.{entries_bytes, whole_at}
+use Rattle.log_records.specs.Keeping.{left_in, AreLeft}
 use Rattle.log_records.proofs.EntryReading.{entry_again}
+use Rattle.log_records.proofs.Kept.{left_is, are_left}
 
 -- whether nothing is behind what is read
 abbrev pub ends_there : Option (List Entry × List ℕ) → Bool
@@ -54,44 +56,36 @@ test_done count i bytes total le so_far =
     let one : ends_there (entries_at (count - i) bytes) ≡ eqb (length bytes) 0 = rw k refl in
     sym so_far ∙ one
 
--- records that are left in the bytes, and with those of the list they are the whole
-pub record EntriesLeft (left : ℕ) (rest : List ℕ) (list whole : List Entry) : Type 0 where
-  pub others : List Entry
-  pub spelled : rest ≡ entries_bytes others
-  pub counted : length others ≡ left
-  pub each : AllByRecursion IsEntry others
-  pub joined : list ++ others ≡ whole
-
--- the next one, and what is left behind it
-pub record NextEntry (left : ℕ) (rest : List ℕ) (list whole : List Entry) : Type 0 where
+-- the first of the records that are left in bytes, and the others
+pub record FirstLeft (count : ℕ) (bytes : List ℕ) : Type 0 where
   pub first : Entry × List ℕ
-  pub read : entry_at rest ≡ Some first
-  pub entry : IsEntry first.0
-  pub left_over : EntriesLeft left first.1 (list ++ first.0 ∷ []) whole
+  pub read : entry_at bytes ≡ Some first
+  pub others : AreLeft (count - 1) first.1
+  pub joined : left_in count bytes ≡ first.0 ∷ left_in (count - 1) first.1
 
-next_of : (left : ℕ) (rest : List ℕ) (list whole others : List Entry) → rest ≡ entries_bytes others → length others ≡ suc left → AllByRecursion IsEntry others → list ++ others ≡ whole → NextEntry left rest list whole
-next_of left rest list whole [] spelled counted each joined = absurd (omega (arith, counted))
-next_of left rest list whole (e ∷ es) spelled counted each joined =
+first_of : (count : ℕ) (bytes : List ℕ) (es : List Entry) → 1 ≤ count → left_in count bytes ≡ es → length es ≡ count → AllByRecursion IsEntry es → bytes ≡ entries_bytes es → FirstLeft count bytes
+first_of count bytes [] some are counted each spelled = absurd (omega (arith, counted))
+first_of count bytes (e ∷ es) some are counted each spelled =
+    let less : length es ≡ count - 1 = omega (arith, counted) in
     record {
       first = (e, entries_bytes es);
       read = ap entry_at (spelled ∙ flat_map-cons entry_bytes e es) ∙ entry_again e (entries_bytes es) each.0;
-      entry = each.0;
-      left_over = record { others = es; spelled = refl; counted = omega (arith, counted); each = each.1; joined = append_assoc list (e ∷ []) es ∙ joined };
+      others = are_left (count - 1) (entries_bytes es) es less each.1 refl;
+      joined = are ∙ ap (λ (t : List Entry). e ∷ t) (sym (left_is (count - 1) (entries_bytes es) es less each.1 refl));
     }
 
-pub entry_next : (count i : ℕ) (rest : List ℕ) (list whole : List Entry) → i < count → EntriesLeft (count - i) rest list whole → NextEntry (count - (i + 1)) rest list whole
-entry_next count i rest list whole lt h = next_of (count - (i + 1)) rest list whole h.others h.spelled (omega (arith, h.counted)) h.each h.joined
+pub first_left : (count : ℕ) (bytes : List ℕ) → 1 ≤ count → AreLeft count bytes → FirstLeft count bytes
+first_left count bytes some left = first_of count bytes (left_in count bytes) some refl left.counted left.each left.spelled
 
-pub entries_over : (count i : ℕ) (rest : List ℕ) (list whole : List Entry) → count ≤ i → EntriesLeft (count - i) rest list whole → list ≡ whole
-entries_over count i rest list whole le h =
-    let nothing : h.others ≡ [] = nil_from_length h.others (omega (arith, h.counted)) in
-    sym (append-nil list) ∙ ap (λ (t : List Entry). list ++ t) (sym nothing) ∙ h.joined
-
--- one that was read is in its ranges, and what is left behind it
-pub entry_put : (count i : ℕ) (rest : List ℕ) (list whole : List Entry) (e : Entry) (after : List ℕ) → i < count → EntriesLeft (count - i) rest list whole → entry_at rest ≡ Some (e, after)
-    → IsEntry e × EntriesLeft (count - (i + 1)) after (list ++ e ∷ []) whole
-entry_put count i rest list whole e after lt h read =
-    let next = entry_next count i rest list whole lt h in
+-- the record that was read is the first, and what is left behind it
+pub left_behind : (count : ℕ) (bytes : List ℕ) (e : Entry) (after : List ℕ) → 1 ≤ count → AreLeft count bytes → entry_at bytes ≡ Some (e, after)
+    → AreLeft (count - 1) after × (left_in count bytes ≡ e ∷ left_in (count - 1) after)
+left_behind count bytes e after some left read =
+    let f = first_left count bytes some left in
     let mine : Entry × List ℕ = (e, after) in
-    let same : next.first ≡ mine = same_Some next.first mine (sym next.read ∙ read) in
-    subst (λ (x : Entry × List ℕ). IsEntry x.0 × EntriesLeft (count - (i + 1)) x.1 (list ++ x.0 ∷ []) whole) same (next.entry, next.left_over)
+    let same : f.first ≡ mine = same_Some f.first mine (sym f.read ∙ read) in
+    subst (λ (x : Entry × List ℕ). AreLeft (count - 1) x.1 × (left_in count bytes ≡ x.0 ∷ left_in (count - 1) x.1)) same (f.others, f.joined)
+
+-- none is left
+pub none_left : (bytes : List ℕ) → AreLeft 0 bytes → left_in 0 bytes ≡ []
+none_left bytes left = nil_from_length (left_in 0 bytes) left.counted

@@ -7,17 +7,28 @@ use Rattle.log_records.specs.Entries.{Entry}
 use Rattle.log_records.specs.Spelling.{entry_bytes, entry_size, IsEntry}
 use Rattle.log_records.specs.Reading.{entries_at}
 use Rattle.log_records.specs.Bodies.{entries_bytes, entries_size}
-use Rattle.log_records.specs.Keeping.{kept, IsKept}
+use Rattle.log_records.specs.Keeping.{left_in, kept, AreLeft, IsKept}
 use Rattle.log_records.proofs.Sizes.{length-entries_bytes, entries_size-low}
 use Rattle.log_records.proofs.EntryReading.{entries_again}
+
+-- the records that bytes spell are those that are left in them
+pub left_is : (count : ℕ) (bytes : List ℕ) (es : List Entry) → length es ≡ count → AllByRecursion IsEntry es → bytes ≡ entries_bytes es → left_in count bytes ≡ es
+unfolding left_in
+left_is count bytes es counted each spelled =
+    let read : entries_at count bytes ≡ Some (es, []) =
+    ap (entries_at count) (spelled ∙ sym (append-nil (entries_bytes es))) ∙ subst (λ (n : ℕ). entries_at n (entries_bytes es ++ []) ≡ Some (es, [])) counted (entries_again es [] each) in
+    rw read refl
+
+-- so they are left there
+pub are_left : (count : ℕ) (bytes : List ℕ) (es : List Entry) → length es ≡ count → AllByRecursion IsEntry es → bytes ≡ entries_bytes es → AreLeft count bytes
+are_left count bytes es counted each spelled =
+    let same = left_is count bytes es counted each spelled in
+    record { counted = ap length same ∙ counted; each = subst (AllByRecursion IsEntry) (sym same) each; spelled = spelled ∙ ap entries_bytes (sym same) }
 
 -- the records that the used bytes spell are those that are kept
 pub kept_is : (count used : ℕ) (bytes : List ℕ) (es : List Entry) → length es ≡ count → AllByRecursion IsEntry es → take used bytes ≡ entries_bytes es → kept count used bytes ≡ es
 unfolding kept
-kept_is count used bytes es counted each spelled =
-    let read : entries_at count (take used bytes) ≡ Some (es, []) =
-    ap (entries_at count) (spelled ∙ sym (append-nil (entries_bytes es))) ∙ subst (λ (n : ℕ). entries_at n (entries_bytes es ++ []) ≡ Some (es, [])) counted (entries_again es [] each) in
-    rw read refl
+kept_is count used bytes es counted each spelled = left_is count (take used bytes) es counted each spelled
 
 -- so a body that has these bytes keeps them
 pub made : (count used : ℕ) (bytes : List ℕ) (es : List Entry) → used ≤ 2004 → length bytes ≡ 2004 → length es ≡ count → AllByRecursion IsEntry es → take used bytes ≡ entries_bytes es → IsKept count used bytes

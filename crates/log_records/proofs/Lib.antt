@@ -1,4 +1,5 @@
 pub mod NameLoops
+pub mod SlotEntries
 pub mod Numbers
 pub mod RowFields
 pub mod NamedFields

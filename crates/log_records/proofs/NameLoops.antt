@@ -1,5 +1,7 @@
 -- Reading named transactions one after another, as a loop does.
-use Rattle.std.proofs.Common.{◌≡◌, ℕ, suc, ◌-◌, ◌+◌, ◌≤◌, ◌<◌, true, leb, List, [], ◌∷◌, Option, Some, None, refl, sym, ap, ◌∙◌, arith}
+use Rattle.std.proofs.Common.{◌≡◌, ℕ, suc, ◌-◌, ◌+◌, ◌*◌, ◌≤◌, ◌<◌, true, leb, List, [], ◌∷◌, length, take, Option, Some, None, refl, sym, ap, ◌∙◌, length-append, arith}
+use Rattle.std.specs.List.{flat_map}
+use Rattle.std.proofs.lemmas.List.{take_at}
 use Rattle.std.specs.Prelude.{option_map}
 use Rattle.std.specs.Option.{option_map_or}
 use Rattle.std.specs.Int.{w16}
@@ -7,7 +9,10 @@ use Rattle.std.proofs.lemmas.Bool.{le-leb}
 use Rattle.std.proofs.lemmas.Option.{same_Some}
 use Rattle.log_records.specs.Entries.{Named, Ckpoint}
 use Rattle.log_records.specs.Reading.{◌>>=◌, number_at, next_at, names_at, list_at, checkpoint_at}
-use Rattle.log_records.specs.Lying.{names_of}
+use Rattle.log_records.specs.Spelling.{AreBytes, named_bytes}
+use Rattle.log_records.specs.Lying.{names_of, AreLying}
+use Rattle.log_records.proofs.NamedFields.{names_take}
+use Rattle.log_records.proofs.Sizes.{length-names}
 
 -- the bytes behind what is read
 abbrev pub behind : {A : Type 0} → Option (A × List ℕ) → Option (List ℕ)
@@ -55,3 +60,18 @@ unfolding checkpoint_at list_at
 checkpoint_is bytes count names rest counted few e =
     let small : leb count 64 ≡ true = le-leb _ _ few in
     rw (counted, small, names_are count names rest e) refl
+
+-- names that were passed over lie there
+pub are_lying : (count : ℕ) (bytes rest : List ℕ) → AreBytes bytes → count ≤ 64 → behind (names_at count None bytes) ≡ Some rest → AreLying count bytes
+are_lying count bytes rest fits few e =
+    let ns = names_of count bytes in
+    let read = names_are count bytes rest e in
+    let t = names_take count None bytes ns rest fits read in
+    let long : length (flat_map named_bytes ns) ≡ 18 * count = omega (arith, length-names ns, t.1) in
+    record {
+      read = rw read refl;
+      counted = t.1;
+      named = record { few = omega (arith, t.1, few); rising = t.2; each = t.3 };
+      within = omega (arith, ap length t.0.parts, length-append (flat_map named_bytes ns) rest, long);
+      spelled = ap (take (18 * count)) t.0.parts ∙ take_at (flat_map named_bytes ns) rest (18 * count) long;
+    }

@@ -43,7 +43,7 @@ next_again : (last : Option ℕ) (n : Named) (rest : List ℕ) → IsNamed n →
 unfolding next_at
 next_again last n rest fits after = rw (named_again n rest fits, after) refl
 
-names_take : (count : ℕ) (last : Option ℕ) (bytes : List ℕ) (ns : List Named) (rest : List ℕ) → AreBytes bytes → names_at count last bytes ≡ Some (ns, rest)
+pub names_take : (count : ℕ) (last : Option ℕ) (bytes : List ℕ) (ns : List Named) (rest : List ℕ) → AreBytes bytes → names_at count last bytes ≡ Some (ns, rest)
     → Takes bytes (flat_map named_bytes ns) rest × (length ns ≡ count) × (rises_after last ns ≡ true) × AllByRecursion IsNamed ns
 unfolding names_at
 names_take zero last bytes ns rest fits e =

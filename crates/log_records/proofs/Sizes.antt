@@ -13,7 +13,7 @@ length-named_bytes : (n : Named) → length (named_bytes n) ≡ 18
 length-named_bytes n =
     simp length-append (omega (arith, wide64.long n.tx, wide64.long n.block, wide16.long n.index))
 
-length-names : (ns : List Named) → length (flat_map named_bytes ns) ≡ 18 * length ns
+pub length-names : (ns : List Named) → length (flat_map named_bytes ns) ≡ 18 * length ns
 length-names [] = refl
 length-names (n ∷ ns) = rw (flat_map-cons named_bytes n ns, length-append) (omega (arith, length-named_bytes n, length-names ns))
 

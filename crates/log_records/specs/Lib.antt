@@ -7,5 +7,6 @@ pub mod Says
 pub mod Bodies
 pub mod Keeping
 pub mod Lying
-pub mod Parted
+pub mod SlotRows
+pub mod Viewed
 pub mod Taken

@@ -1,18 +1,15 @@
 //! The body of a log block: its number and its records, which it keeps as their bytes.
-ghost use Rattle.std.specs.Prelude.{◌≡◌, ◌==◌, ◌+◌, ◌≤◌, ◌++◌, ◌↔◌, [], ◌∷◌, length, take, map, option_map, is_some, IsTrue, IfOk};
+ghost use Rattle.std.specs.Prelude.{◌≡◌, ◌==◌, ◌+◌, ◌≤◌, ◌++◌, ◌↔◌, [], ◌∷◌, length, take, option_map, is_some, IsTrue};
 ghost use Rattle.std.specs.Bool.{OnTrue, OnFalse};
 ghost use Rattle.std.specs.List.{AllByRecursion, list_all};
 ghost use Rattle.log_records.specs.Bodies.{entries_size, entries_bytes, records_at, whole_at};
-ghost use Rattle.log_records.specs.Says.{entry_of};
+ghost use Rattle.log_records.specs.Viewed.{view_entry};
 ghost use Rattle.log_records.specs.Spelling.{entry_size, IsEntry};
 
-use crate::parts::to_record;
+use crate::cursor::Records;
 use crate::reading::record_at;
-use crate::record::Record;
+use crate::view::RecordView;
 use crate::writing::put_record;
-use ids_base::list::List;
-use ids_base::memory::Memory;
-use std::alloc::Global;
 use std::marker::Model;
 
 /// How many bytes the records of a body may take.
@@ -40,16 +37,16 @@ impl Model for BlockBody {
 }
 
 /// Puts a record at the end of a body, where it fits; else nothing changes. Takes no memory; in time of the record's size.
-pub fn put(entry: &Record, body: &mut BlockBody) -> bool
-    ensures fits { IsTrue result ↔ (entries_size body.old.entries + entry_size (entry_of entry.now) ≤ 2004) }
-    ensures put { OnTrue result (body.new ≡ record body.old { entries = body.old.entries ++ entry_of entry.now ∷ [] }) }
+pub fn put(view: RecordView, body: &mut BlockBody) -> bool
+    ensures fits { IsTrue result ↔ (entries_size body.old.entries + entry_size (view_entry view.entry) ≤ 2004) }
+    ensures put { OnTrue result (body.new ≡ record body.old { entries = body.old.entries ++ view_entry view.entry ∷ [] }) }
     ensures refused { OnFalse result (body.new ≡ body.old) }
 {
-    let size = entry.size();
+    let size = view.size();
     if !body.has_room(size) {
         return false;
     }
-    body.append(entry, size);
+    body.append(&view, size);
     true
 }
 
@@ -111,20 +108,14 @@ impl BlockBody {
         size as usize <= RECORD_BYTES - self.used() as usize
     }
 
-    /// The records in order, in time of their bytes.
-    pub fn records(&self, alloc: Global) -> Result<List<Record>, Memory>
-        ensures { IfOk result (λ list. map entry_of list ≡ self.now.entries) }
+    /// The records, one by one in order. Constant time, no memory.
+    pub fn cursor(&self) -> Records<'_>
+        ensures { result ≡ self.now.entries }
     {
-        let mut list = List::new(alloc);
-        let mut rest = self.record_bytes();
-        for _ in 0..self.count() {
-            let Some((parts, after)) = record_at(rest) else {
-                unreachable!()
-            };
-            list.push(to_record(alloc, parts)?)?;
-            rest = after;
+        Records {
+            count: self.count(),
+            rest: self.record_bytes(),
         }
-        Ok(list)
     }
 
     /// The bytes of the records, one after another.
@@ -136,12 +127,12 @@ impl BlockBody {
     }
 
     // Puts a record for which there is room.
-    fn append(&mut self, entry: &Record, size: u16)
-        requires size { size ≡ entry_size (entry_of entry.now) }
+    fn append(&mut self, view: &RecordView, size: u16)
+        requires size { size ≡ entry_size (view_entry view.now) }
         requires room { entries_size self.old.entries + size ≤ 2004 }
-        ensures { self.new ≡ record self.old { entries = self.old.entries ++ entry_of entry.now ∷ [] } }
+        ensures { self.new ≡ record self.old { entries = self.old.entries ++ view_entry view.now ∷ [] } }
     {
-        put_record(&mut self.bytes, self.used as usize, entry);
+        put_record(&mut self.bytes, self.used as usize, view);
         self.used += size;
         self.count += 1;
     }

@@ -1,15 +1,19 @@
 //! Reading records from left to right: each call gives what it read and the bytes behind it.
-ghost use Rattle.std.specs.Prelude.{◌≡◌, ◌≤◌, ℕ, List, length, option_map, None};
+ghost use Rattle.std.specs.Prelude.{◌≡◌, ◌≤◌, ℕ, List, length, option_map, IfSome, None};
 ghost use Rattle.std.specs.Int.{w16, w32, w64};
+ghost use Rattle.ids_base.specs.RowBytes.{HasRowLength};
+ghost use Rattle.ids_base.specs.RowIds.{row_number};
 ghost use Rattle.log_records.specs.Naming.{named_of};
-ghost use Rattle.log_records.specs.Parted.{parts_entry};
+ghost use Rattle.log_records.specs.Viewed.{view_entry};
 ghost use Rattle.log_records.specs.Reading.{number_at, piece_at, kind_at, row_length_at, row_at, rows_at, place_at, next_at, named_at, names_at, checkpoint_at, fields_at, tail_at, entry_at};
 
+use crate::change::ChangeView;
 use crate::kind::{Kind, kind_of};
-use crate::names::Names;
-use crate::parts::Parts;
+use crate::named_bytes::NamedBytes;
+use crate::view::{NamedView, RecordView};
 use ids_base::numbers::{TableNo, TxNo};
 use ids_base::position::{LogPos, OpenTx};
+use ids_base::row_id::RowId;
 
 const MOST_NAMED: u16 = 64;
 
@@ -17,13 +21,13 @@ const LONGEST_ROW: u16 = 800;
 
 /// A record at the front of the bytes.
 #[tactic(auto, unfolding(crate::specs::Reading::entry_at))]
-pub fn record_at(bytes: &[u8]) -> Option<(Parts, &[u8])>
-    ensures { option_map (λ x. (parts_entry x.0, x.1.now)) result ≡ entry_at bytes.now }
+pub fn record_at(bytes: &[u8]) -> Option<(RecordView, &[u8])>
+    ensures { option_map (λ x. (view_entry x.0, x.1.now)) result ≡ entry_at bytes.now }
 {
     let (size, rest) = u16_at(bytes)?;
-    let (parts, rest) = tail(rest)?;
+    let (view, rest) = tail(rest)?;
     if size as usize + rest.len() == bytes.len() {
-        Some((parts, rest))
+        Some((view, rest))
     } else {
         None
     }
@@ -80,7 +84,8 @@ pub fn u64_at(bytes: &[u8]) -> Option<(u64, &[u8])>
 
 #[tactic(auto, unfolding(crate::specs::Reading::piece_at))]
 fn piece(len: usize, bytes: &[u8]) -> Option<(&[u8], &[u8])>
-    ensures { option_map (λ x. (x.0.now, x.1.now)) result ≡ piece_at len bytes.now }
+    ensures piece { option_map (λ x. (x.0.now, x.1.now)) result ≡ piece_at len bytes.now }
+    ensures length { IfSome result (λ x. length x.0.now ≡ len) }
 {
     if bytes.len() < len {
         return None;
@@ -100,7 +105,9 @@ fn kind(bytes: &[u8]) -> Option<(Kind, &[u8])>
 
 #[tactic(auto, unfolding(crate::specs::Reading::row_length_at))]
 fn row_length(bytes: &[u8]) -> Option<(u16, &[u8])>
-    ensures { option_map (λ x. (x.0, x.1.now)) result ≡ row_length_at bytes.now }
+    ensures length { option_map (λ x. (x.0, x.1.now)) result ≡ row_length_at bytes.now }
+    ensures least { IfSome result (λ x. 1 ≤ x.0) }
+    ensures most { IfSome result (λ x. x.0 ≤ 800) }
 {
     let (len, rest) = u16_at(bytes)?;
     if 1 <= len && len <= LONGEST_ROW {
@@ -112,7 +119,8 @@ fn row_length(bytes: &[u8]) -> Option<(u16, &[u8])>
 
 #[tactic(auto, unfolding(crate::specs::Reading::row_at))]
 fn row(bytes: &[u8]) -> Option<(&[u8], &[u8])>
-    ensures { option_map (λ x. (x.0.now, x.1.now)) result ≡ row_at bytes.now }
+    ensures row { option_map (λ x. (x.0.now, x.1.now)) result ≡ row_at bytes.now }
+    ensures length { IfSome result (λ x. HasRowLength x.0.now) }
 {
     let (len, rest) = row_length(bytes)?;
     piece(len as usize, rest)
@@ -120,7 +128,9 @@ fn row(bytes: &[u8]) -> Option<(&[u8], &[u8])>
 
 #[tactic(auto, unfolding(crate::specs::Reading::rows_at))]
 fn rows(bytes: &[u8]) -> Option<(&[u8], &[u8], &[u8])>
-    ensures { option_map (λ x. ((x.0.now, x.1.now), x.2.now)) result ≡ rows_at bytes.now }
+    ensures rows { option_map (λ x. ((x.0.now, x.1.now), x.2.now)) result ≡ rows_at bytes.now }
+    ensures before { IfSome result (λ x. HasRowLength x.0.now) }
+    ensures after { IfSome result (λ x. length x.0.now ≡ length x.1.now) }
 {
     let (len, rest) = row_length(bytes)?;
     let (before, rest) = piece(len as usize, rest)?;
@@ -129,12 +139,12 @@ fn rows(bytes: &[u8]) -> Option<(&[u8], &[u8], &[u8])>
 }
 
 #[tactic(auto, unfolding(crate::specs::Reading::place_at))]
-fn place(bytes: &[u8]) -> Option<(TableNo, u32, &[u8])>
-    ensures { option_map (λ x. ((x.0, x.1), x.2.now)) result ≡ place_at bytes.now }
+fn place(bytes: &[u8]) -> Option<(TableNo, RowId, &[u8])>
+    ensures { option_map (λ x. ((x.0, row_number x.1.page x.1.slot), x.2.now)) result ≡ place_at bytes.now }
 {
     let (table, rest) = u32_at(bytes)?;
     let (row, rest) = u32_at(rest)?;
-    Some((table, row, rest))
+    Some((table, RowId::from_number(row), rest))
 }
 
 // The next named transaction, of a number behind the last.
@@ -167,33 +177,33 @@ fn behind_names(count: u16, bytes: &[u8]) -> Option<&[u8]>
 }
 
 #[tactic(auto, unfolding(crate::specs::Reading::list_at, crate::specs::Reading::checkpoint_at))]
-fn checkpoint(bytes: &[u8]) -> Option<(Parts, &[u8])>
-    ensures { option_map (λ x. (parts_entry x.0, x.1.now)) result ≡ checkpoint_at bytes.now }
+fn checkpoint(bytes: &[u8]) -> Option<(RecordView, &[u8])>
+    ensures { option_map (λ x. (view_entry x.0, x.1.now)) result ≡ checkpoint_at bytes.now }
 {
     let (count, names) = u16_at(bytes)?;
     if count > MOST_NAMED {
         return None;
     }
     let rest = behind_names(count, names)?;
-    let named = Names {
+    let named = NamedView::Lying(NamedBytes {
         count,
         bytes: names,
-    };
-    Some((Parts::Ckpoint { named }, rest))
+    });
+    Some((RecordView::Ckpoint { named }, rest))
 }
 
 // What follows the transaction of a record.
 #[tactic(auto, unfolding(crate::specs::Reading::fields_at))]
-fn fields(kind: Kind, tx: TxNo, bytes: &[u8]) -> Option<(Parts, &[u8])>
-    ensures { option_map (λ x. (parts_entry x.0, x.1.now)) result ≡ fields_at kind tx bytes.now }
+fn fields(kind: Kind, tx: TxNo, bytes: &[u8]) -> Option<(RecordView, &[u8])>
+    ensures { option_map (λ x. (view_entry x.0, x.1.now)) result ≡ fields_at kind tx bytes.now }
 {
     match kind {
         Kind::Begin => {
             let (session, rest) = u32_at(bytes)?;
-            Some((Parts::Begin { tx, session }, rest))
+            Some((RecordView::Begin { tx, session }, rest))
         }
-        Kind::Commit => Some((Parts::Commit { tx }, bytes)),
-        Kind::Rollback => Some((Parts::Rollback { tx }, bytes)),
+        Kind::Commit => Some((RecordView::Commit { tx }, bytes)),
+        Kind::Rollback => Some((RecordView::Rollback { tx }, bytes)),
         Kind::HInsert => inserted(tx, bytes),
         Kind::HDelete => deleted(tx, bytes),
         Kind::HUpdate => updated(tx, bytes),
@@ -202,61 +212,54 @@ fn fields(kind: Kind, tx: TxNo, bytes: &[u8]) -> Option<(Parts, &[u8])>
 }
 
 #[tactic(auto, unfolding(crate::specs::Reading::fields_at))]
-fn inserted(tx: TxNo, bytes: &[u8]) -> Option<(Parts, &[u8])>
-    ensures { option_map (λ x. (parts_entry x.0, x.1.now)) result ≡ fields_at Kind.HInsert tx bytes.now }
+fn inserted(tx: TxNo, bytes: &[u8]) -> Option<(RecordView, &[u8])>
+    ensures { option_map (λ x. (view_entry x.0, x.1.now)) result ≡ fields_at Kind.HInsert tx bytes.now }
 {
     let (table, slot, rest) = place(bytes)?;
     let (after, rest) = row(rest)?;
-    Some((
-        Parts::HInsert {
-            tx,
-            table,
-            row: slot,
-            after,
-        },
-        rest,
-    ))
+    let change = ChangeView {
+        table,
+        row: slot,
+        before: None,
+        after: Some(after),
+    };
+    Some((RecordView::Change { tx, change }, rest))
 }
 
 #[tactic(auto, unfolding(crate::specs::Reading::fields_at))]
-fn deleted(tx: TxNo, bytes: &[u8]) -> Option<(Parts, &[u8])>
-    ensures { option_map (λ x. (parts_entry x.0, x.1.now)) result ≡ fields_at Kind.HDelete tx bytes.now }
+fn deleted(tx: TxNo, bytes: &[u8]) -> Option<(RecordView, &[u8])>
+    ensures { option_map (λ x. (view_entry x.0, x.1.now)) result ≡ fields_at Kind.HDelete tx bytes.now }
 {
     let (table, slot, rest) = place(bytes)?;
     let (before, rest) = row(rest)?;
-    Some((
-        Parts::HDelete {
-            tx,
-            table,
-            row: slot,
-            before,
-        },
-        rest,
-    ))
+    let change = ChangeView {
+        table,
+        row: slot,
+        before: Some(before),
+        after: None,
+    };
+    Some((RecordView::Change { tx, change }, rest))
 }
 
 #[tactic(auto, unfolding(crate::specs::Reading::fields_at))]
-fn updated(tx: TxNo, bytes: &[u8]) -> Option<(Parts, &[u8])>
-    ensures { option_map (λ x. (parts_entry x.0, x.1.now)) result ≡ fields_at Kind.HUpdate tx bytes.now }
+fn updated(tx: TxNo, bytes: &[u8]) -> Option<(RecordView, &[u8])>
+    ensures { option_map (λ x. (view_entry x.0, x.1.now)) result ≡ fields_at Kind.HUpdate tx bytes.now }
 {
     let (table, slot, rest) = place(bytes)?;
     let (before, after, rest) = rows(rest)?;
-    Some((
-        Parts::HUpdate {
-            tx,
-            table,
-            row: slot,
-            before,
-            after,
-        },
-        rest,
-    ))
+    let change = ChangeView {
+        table,
+        row: slot,
+        before: Some(before),
+        after: Some(after),
+    };
+    Some((RecordView::Change { tx, change }, rest))
 }
 
 // What follows the length of a record.
 #[tactic(auto, unfolding(crate::specs::Reading::tail_at))]
-fn tail(bytes: &[u8]) -> Option<(Parts, &[u8])>
-    ensures { option_map (λ x. (parts_entry x.0, x.1.now)) result ≡ tail_at bytes.now }
+fn tail(bytes: &[u8]) -> Option<(RecordView, &[u8])>
+    ensures { option_map (λ x. (view_entry x.0, x.1.now)) result ≡ tail_at bytes.now }
 {
     let (kind, rest) = kind(bytes)?;
     let (tx, rest) = u64_at(rest)?;

@@ -1,11 +1,12 @@
 //! What the records of the logical log say.
 ghost use Rattle.std.specs.Prelude.{◌≡◌, IfOk};
 ghost use Rattle.log_records.specs.Says.{entry_of};
-ghost use Rattle.log_records.specs.Spelling.{entry_size, tx_of, kind_of};
+ghost use Rattle.log_records.specs.Viewed.{view_entry};
 
-use crate::kind::{Kind, code_of};
+use crate::change::ChangeView;
 use crate::named::NamedList;
 pub use crate::updated::Updated;
+use crate::view::{NamedView, RecordView};
 use ids_base::memory::Memory;
 use ids_base::numbers::{TableNo, TxNo};
 use ids_base::row_bytes::RowBytes;
@@ -59,99 +60,69 @@ pub enum Record {
 }
 
 impl Record {
-    /// The same record, in time of its size.
-    pub fn copy(&self, alloc: Global) -> Result<Record, Memory>
-        ensures { IfOk result (λ copy. entry_of copy ≡ entry_of self.now) }
+    /// The same record, whose rows and named transactions lie in this one. Constant time.
+    pub fn view(&self) -> RecordView<'_>
+        ensures { view_entry result ≡ entry_of self.now }
     {
         match self {
-            Record::Begin { tx, session } => Ok(Record::Begin {
+            Record::Begin { tx, session } => RecordView::Begin {
                 tx: *tx,
                 session: *session,
-            }),
-            Record::Commit { tx } => Ok(Record::Commit { tx: *tx }),
-            Record::Rollback { tx } => Ok(Record::Rollback { tx: *tx }),
+            },
+            Record::Commit { tx } => RecordView::Commit { tx: *tx },
+            Record::Rollback { tx } => RecordView::Rollback { tx: *tx },
             Record::HInsert {
                 tx,
                 table,
                 row,
                 after,
-            } => Ok(Record::HInsert {
+            } => RecordView::Change {
                 tx: *tx,
-                table: *table,
-                row: *row,
-                after: after.copy(alloc)?,
-            }),
+                change: ChangeView {
+                    table: *table,
+                    row: *row,
+                    before: None,
+                    after: Some(after.bytes()),
+                },
+            },
             Record::HDelete {
                 tx,
                 table,
                 row,
                 before,
-            } => Ok(Record::HDelete {
+            } => RecordView::Change {
                 tx: *tx,
-                table: *table,
-                row: *row,
-                before: before.copy(alloc)?,
-            }),
+                change: ChangeView {
+                    table: *table,
+                    row: *row,
+                    before: Some(before.bytes()),
+                    after: None,
+                },
+            },
             Record::HUpdate {
                 tx,
                 table,
                 row,
                 rows,
-            } => Ok(Record::HUpdate {
+            } => RecordView::Change {
                 tx: *tx,
-                table: *table,
-                row: *row,
-                rows: rows.copy(alloc)?,
-            }),
-            Record::Ckpoint { named } => Ok(Record::Ckpoint {
-                named: named.copy(alloc)?,
-            }),
+                change: ChangeView {
+                    table: *table,
+                    row: *row,
+                    before: Some(rows.before.bytes()),
+                    after: Some(rows.after.bytes()),
+                },
+            },
+            Record::Ckpoint { named } => RecordView::Ckpoint {
+                named: NamedView::Listed(named),
+            },
         }
     }
 
-    /// How many bytes the record takes in the log: 11 to 1621. Constant time.
-    pub fn size(&self) -> u16
-        ensures { result ≡ entry_size (entry_of self.now) }
+    /// The same record, in time of its size.
+    pub fn copy(&self, alloc: Global) -> Result<Record, Memory>
+        ensures { IfOk result (λ copy. entry_of copy ≡ entry_of self.now) }
     {
-        match self {
-            Record::Begin { .. } => 15,
-            Record::Commit { .. } | Record::Rollback { .. } => 11,
-            Record::HInsert { after, .. } => 21 + after.bytes().len() as u16,
-            Record::HDelete { before, .. } => 21 + before.bytes().len() as u16,
-            Record::HUpdate { rows, .. } => {
-                21 + rows.before.bytes().len() as u16 + rows.after.bytes().len() as u16
-            }
-            Record::Ckpoint { named } => 13 + 18 * named.as_slice().len() as u16,
-        }
-    }
-
-    /// The record's transaction; 0 for a checkpoint.
-    pub fn tx(&self) -> TxNo
-        ensures { result ≡ tx_of (entry_of self.now) }
-    {
-        match self {
-            Record::Begin { tx, .. }
-            | Record::Commit { tx }
-            | Record::Rollback { tx }
-            | Record::HInsert { tx, .. }
-            | Record::HDelete { tx, .. }
-            | Record::HUpdate { tx, .. } => *tx,
-            Record::Ckpoint { .. } => 0,
-        }
-    }
-
-    // The number of the record's kind.
-    pub(crate) fn code(&self) -> u8
-        ensures { result ≡ kind_of (entry_of self.now) }
-    {
-        code_of(match self {
-            Record::Begin { .. } => Kind::Begin,
-            Record::Commit { .. } => Kind::Commit,
-            Record::Rollback { .. } => Kind::Rollback,
-            Record::HInsert { .. } => Kind::HInsert,
-            Record::HDelete { .. } => Kind::HDelete,
-            Record::HUpdate { .. } => Kind::HUpdate,
-            Record::Ckpoint { .. } => Kind::Ckpoint,
-        })
+        self.view().to_record(alloc)
     }
 }

@@ -5,7 +5,6 @@ ghost use Rattle.log_records.specs.Says.{entry_of};
 ghost use Rattle.log_records.specs.Spelling.{entry_bytes, IsEntry};
 ghost use Rattle.log_records.specs.Taken.{IsTaken, IsNoRecord};
 
-use crate::parts::to_record;
 use crate::reading::record_at;
 use crate::record::Record;
 use ids_base::memory::Memory;
@@ -19,9 +18,9 @@ pub fn take(alloc: Global, bytes: &[u8]) -> Result<Option<(Record, usize)>, Memo
     // What is spelled so is taken, whatever follows.
     ensures none { IfOk result (λ o. IfNone o (IsNoRecord bytes.now)) }
 {
-    let Some((parts, rest)) = record_at(bytes) else {
+    let Some((view, rest)) = record_at(bytes) else {
         return Ok(None);
     };
     let size = bytes.len() - rest.len();
-    Ok(Some((to_record(alloc, parts)?, size)))
+    Ok(Some((view.to_record(alloc)?, size)))
 }

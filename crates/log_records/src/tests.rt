@@ -1,8 +1,10 @@
 use crate::block_body::{BlockBody, put};
 use crate::body_bytes::{body_from_bytes, body_to_bytes};
+use crate::change::Change;
 use crate::laws::{bodies_are_read, bodies_are_spelled, one_reading, sizes_are_lengths};
-use crate::record::{Record, Updated};
+use crate::record::Record;
 use crate::taking::take;
+use crate::view::RecordView;
 use ids_base::row_bytes::RowBytes;
 use ids_base::row_id::RowId;
 use std::alloc::Global;
@@ -66,7 +68,7 @@ fn worked_body(alloc: Global) -> Result<BlockBody, Fail> {
         Record::Commit { tx: 2 },
     ];
     for record in &records {
-        if !put(record, &mut body) {
+        if !put(record.view(), &mut body) {
             return Err("it fits")?;
         }
     }
@@ -86,8 +88,12 @@ fn worked_block(rt: HostRuntime) -> Result<(), Fail> {
     assert!(rt; bytes[67..].iter().all(|b| *b == 0));
     let read = body_from_bytes(&bytes).ok_or("it is a body")?;
     assert_eq!(rt; (read.number(), read.used(), read.count()), (2, 55, 3));
-    let records = read.records(rt.alloc())?;
-    assert_eq!(rt; records.len(), 3);
+    let mut records = read.cursor();
+    for size in [15, 29, 11] {
+        let view = records.next().ok_or("it has three records")?;
+        assert_eq!(rt; (view.tx(), view.size()), (2, size));
+    }
+    assert!(rt; records.next().is_none());
     Ok(())
 }
 
@@ -125,27 +131,26 @@ fn what_is_no_body(rt: HostRuntime) -> Result<(), Fail> {
 fn filled(begins: u32, commits: u32) -> BlockBody {
     let mut body = BlockBody::new(1);
     for session in 0..begins {
-        let _ = put(&Record::Begin { tx: 2, session }, &mut body);
+        let _ = put(RecordView::Begin { tx: 2, session }, &mut body);
     }
     for _ in 0..commits {
-        let _ = put(&Record::Commit { tx: 2 }, &mut body);
+        let _ = put(RecordView::Commit { tx: 2 }, &mut body);
     }
     body
 }
 
 #[test]
 fn a_body_takes_2004_bytes(rt: HostRuntime) -> Result<(), Fail> {
-    let last = Record::Rollback { tx: 2 };
     let mut body = filled(6, 173);
     assert!(rt; body.has_room(11) && !body.has_room(12));
-    assert!(rt; put(&last, &mut body));
+    assert!(rt; put(RecordView::Rollback { tx: 2 }, &mut body));
     assert_eq!(rt; (body.used(), body.count()), (2004, 180));
-    assert!(rt; !put(&last, &mut body));
+    assert!(rt; !put(RecordView::Rollback { tx: 2 }, &mut body));
     let read = body_from_bytes(&bytes_of(&body).ok_or("it has records")?).ok_or("it is a body")?;
-    assert_eq!(rt; read.records(rt.alloc())?.len(), 180);
+    assert_eq!(rt; read.count(), 180);
     let mut body = filled(9, 169);
     assert_eq!(rt; body.used(), 1994);
-    assert!(rt; !put(&last, &mut body));
+    assert!(rt; !put(RecordView::Rollback { tx: 2 }, &mut body));
     assert_eq!(rt; (body.used(), body.count()), (1994, 178));
     Ok(())
 }
@@ -157,12 +162,12 @@ fn taken(alloc: Global, bytes: &[u8]) -> Result<Option<(usize, bool)>, Fail> {
     };
     let copy = record.copy(alloc)?;
     let mut body = BlockBody::new(1);
-    if !put(&copy, &mut body) || size > bytes.len() {
+    if !put(copy.view(), &mut body) || size > bytes.len() {
         return Ok(None);
     }
     let spelled = bytes_of(&body).ok_or("it has a record")?;
     let same = spelled[12..].starts_with(&bytes[..size]);
-    Ok(Some((size, same && copy.size() as usize == size)))
+    Ok(Some((size, same && copy.view().size() as usize == size)))
 }
 
 #[test]
@@ -227,18 +232,20 @@ fn what_is_no_record(rt: HostRuntime) -> Result<(), Fail> {
 }
 
 #[test]
-fn an_update_is_spelled(rt: HostRuntime) -> Result<(), Fail> {
-    let before = RowBytes::new(rt.alloc(), &ROW)?;
-    let after = RowBytes::new(rt.alloc(), &OTHER_ROW)?;
-    let record = Record::HUpdate {
-        tx: 2,
+fn a_change_is_spelled_and_copied(rt: HostRuntime) -> Result<(), Fail> {
+    let change = Change {
         table: 100,
         row: RowId { page: 2, slot: 1 },
-        rows: Updated { before, after },
+        before: Some(RowBytes::new(rt.alloc(), &ROW)?),
+        after: Some(RowBytes::new(rt.alloc(), &OTHER_ROW)?),
     };
+    let copy = change.view().to_change(rt.alloc())?;
     let mut body = BlockBody::new(1);
-    assert!(rt; put(&record, &mut body));
-    assert_eq!(rt; (record.tx(), record.size()), (2, 37));
+    let view = RecordView::Change {
+        tx: 2,
+        change: copy.view(),
+    };
+    assert!(rt; put(view, &mut body));
     let bytes = bytes_of(&body).ok_or("it has a record")?;
     assert_eq!(rt; &bytes[12..49], UPDATE.as_slice());
     Ok(())

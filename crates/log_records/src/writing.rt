@@ -16,27 +16,28 @@ ghost use Rattle.std.specs.Int.{w16, w32, w64};
 ghost use Rattle.std.specs.List.{flat_map};
 ghost use Rattle.ids_base.specs.RowIds.{row_number};
 ghost use Rattle.log_records.specs.Naming.{named_of};
-ghost use Rattle.log_records.specs.Says.{entry_of};
 ghost use Rattle.log_records.specs.Spelling.{number_bytes, kind_of, tx_of, entry_size, place_bytes, row_bytes, named_bytes, fields_bytes, entry_bytes, AreBytes, IsChange, AreNamed, IsEntry};
+ghost use Rattle.log_records.specs.Viewed.{change_entry, named_in, view_entry};
 
+use crate::change::ChangeView;
 use crate::named::NamedList;
-use crate::record::Record;
-use ids_base::numbers::TableNo;
+use crate::view::{NamedView, RecordView};
+use ids_base::numbers::{TableNo, TxNo};
 use ids_base::position::OpenTx;
 use ids_base::row_id::RowId;
 
 /// A record.
 #[tactic(auto, unfolding(crate::specs::Spelling::entry_bytes))]
-pub fn put_record(into: &mut [u8], at: usize, entry: &Record) -> usize
-    requires { at + entry_size (entry_of entry.now) ≤ length into.old }
-    ensures end { result ≡ at + entry_size (entry_of entry.now) }
-    ensures front { take result into.new ≡ take at into.old ++ entry_bytes (entry_of entry.now) }
-    ensures entry { IsEntry (entry_of entry.now) }
+pub fn put_record(into: &mut [u8], at: usize, view: &RecordView) -> usize
+    requires { at + entry_size (view_entry view.now) ≤ length into.old }
+    ensures end { result ≡ at + entry_size (view_entry view.now) }
+    ensures front { take result into.new ≡ take at into.old ++ entry_bytes (view_entry view.now) }
+    ensures entry { IsEntry (view_entry view.now) }
 {
-    let at = put_u16(into, at, entry.size());
-    let at = put_bytes(into, at, &[entry.code()]);
-    let at = put_u64(into, at, entry.tx());
-    put_fields(into, at, entry)
+    let at = put_u16(into, at, view.size());
+    let at = put_bytes(into, at, &[view.code()]);
+    let at = put_u64(into, at, view.tx());
+    put_fields(into, at, view)
 }
 
 /// A number of 8 bytes.
@@ -81,37 +82,36 @@ fn put_u32(into: &mut [u8], at: usize, n: u32) -> usize
 }
 
 // What follows the transaction of a record.
-fn put_fields(into: &mut [u8], at: usize, entry: &Record) -> usize
-    requires { at + entry_size (entry_of entry.now) ≤ length into.old + 11 }
-    ensures end { result + 11 ≡ at + entry_size (entry_of entry.now) }
-    ensures front { take result into.new ≡ take at into.old ++ fields_bytes (entry_of entry.now) }
-    ensures entry { tx_of (entry_of entry.now) < 2 ^ 64 → IsEntry (entry_of entry.now) }
+fn put_fields(into: &mut [u8], at: usize, view: &RecordView) -> usize
+    requires { at + entry_size (view_entry view.now) ≤ length into.old + 11 }
+    ensures end { result + 11 ≡ at + entry_size (view_entry view.now) }
+    ensures front { take result into.new ≡ take at into.old ++ fields_bytes (view_entry view.now) }
+    ensures entry { tx_of (view_entry view.now) < 2 ^ 64 → IsEntry (view_entry view.now) }
 {
-    match entry {
-        Record::Begin { session, .. } => put_u32(into, at, *session),
-        Record::Commit { .. } | Record::Rollback { .. } => at,
-        Record::HInsert {
-            table,
-            row,
-            after,
-            ..
-        } => { put_change(into, at, *table, *row, after.bytes()) }
-        Record::HDelete {
-            table,
-            row,
-            before,
-            ..
-        } => { put_change(into, at, *table, *row, before.bytes()) }
-        Record::HUpdate {
-            table,
-            row,
-            rows,
-            ..
-        } => {
-            let at = put_change(into, at, *table, *row, rows.before.bytes());
-            put_bytes(into, at, rows.after.bytes())
+    match view {
+        RecordView::Begin { session, .. } => put_u32(into, at, *session),
+        RecordView::Commit { .. } | RecordView::Rollback { .. } => at,
+        RecordView::Change { tx, change } => put_rows(into, at, *tx, change),
+        RecordView::Ckpoint { named } => put_named(into, at, named),
+    }
+}
+
+// A table, a row id, and the rows behind their length.
+fn put_rows(into: &mut [u8], at: usize, tx: TxNo, change: &ChangeView) -> usize
+    requires { at + entry_size (change_entry tx change.now) ≤ length into.old + 11 }
+    ensures end { result + 11 ≡ at + entry_size (change_entry tx change.now) }
+    ensures front { take result into.new ≡ take at into.old ++ fields_bytes (change_entry tx change.now) }
+    ensures entry { IsEntry (change_entry tx change.now) }
+{
+    match (change.before, change.after) {
+        (None, Some(row)) | (Some(row), None) => {
+            put_change(into, at, change.table, change.row, row)
         }
-        Record::Ckpoint { named } => put_list(into, at, named),
+        (Some(before), Some(after)) => {
+            let at = put_change(into, at, change.table, change.row, before);
+            put_bytes(into, at, after)
+        }
+        (None, None) => unreachable!(),
     }
 }
 
@@ -142,6 +142,22 @@ fn put_open_tx(into: &mut [u8], at: usize, open_tx: OpenTx) -> usize
 }
 
 // The number of named transactions, and each of them.
+fn put_named(into: &mut [u8], at: usize, named: &NamedView) -> usize
+    requires { at + 2 + 18 * length (named_in named.now) ≤ length into.old }
+    ensures end { result ≡ at + 2 + 18 * length (named_in named.now) }
+    ensures front { take result into.new ≡ take at into.old ++ (number_bytes w16 (length (named_in named.now)) ++ flat_map named_bytes (named_in named.now)) }
+    ensures named { AreNamed (named_in named.now) }
+{
+    match named {
+        NamedView::Listed(list) => put_list(into, at, list),
+        NamedView::Lying(bytes) => {
+            let at = put_u16(into, at, bytes.count());
+            put_bytes(into, at, bytes.spelled())
+        }
+    }
+}
+
+// The same of a list.
 fn put_list(into: &mut [u8], at: usize, named: &NamedList) -> usize
     requires { at + 2 + 18 * length named.now ≤ length into.old }
     ensures end { result ≡ at + 2 + 18 * length named.now }
