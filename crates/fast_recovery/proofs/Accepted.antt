@@ -17,7 +17,7 @@ use Rattle.log_records.specs.Spelling.{tx_of}
 use Rattle.log_records.specs.Bodies.{Body}
 use Rattle.log_records.proofs.Numbers.{both_true}
 use Rattle.log_files.specs.Log.{IsBroken, EndsWhole}
-use Rattle.log_buffer.specs.Kept.{entries_in}
+use Rattle.fast_recovery.specs.KeptLog.{entries_in}
 use Rattle.ids_model.specs.Tables.{Tables}
 use Rattle.ids_model.specs.Slots.{Own, own_all}
 use Rattle.ids_model.specs.Recovered.{State, nothing, run, owns}

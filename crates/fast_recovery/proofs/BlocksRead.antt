@@ -13,7 +13,7 @@ use Rattle.log_records.specs.Bodies.{Body, body_of}
 use Rattle.log_files.specs.Log.{ring_place, with_number, body_at, follow, bodies_from, tail_from, IsBroken}
 use Rattle.log_files.proofs.Tails.{HasBody, counted_then, none_from}
 use Rattle.log_files.proofs.Counted.{body_at-in, same_place, counted_is_whole}
-use Rattle.log_buffer.specs.Kept.{entries_in, tail_entries}
+use Rattle.fast_recovery.specs.KeptLog.{entries_in, tail_entries}
 use Rattle.ids_model.specs.Recovered.{State, nothing, run}
 use Rattle.ids_model.specs.RecoveryLaws.{RunsJoin}
 use Rattle.fast_recovery.specs.Order.{open_in}

@@ -23,6 +23,9 @@ pub mod BlocksRead
 pub mod EmptyBase
 pub mod SeenTables
 pub mod Stopping
+pub mod Marks
+pub mod LogTails
+pub mod LogKept
 pub mod Keeping
 pub mod Causes
 pub mod Results

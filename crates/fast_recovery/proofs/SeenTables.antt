@@ -10,7 +10,7 @@ use Rattle.log_records.specs.Entries.{Entry, Rollback}
 use Rattle.gate_blocks.specs.declared.region.Region.{Region}
 use Rattle.log_files.specs.Log.{EndsWhole}
 use Rattle.log_files.specs.Files.{Files}
-use Rattle.log_buffer.specs.Kept.{HasLog, tail_entries}
+use Rattle.fast_recovery.specs.KeptLog.{HasLog, tail_entries}
 use Rattle.ids_model.specs.Tables.{Tables}
 use Rattle.ids_model.specs.Slots.{Slots, assign, own_all}
 use Rattle.ids_model.specs.Recovered.{State, nothing, run, seen, owns, all_taken_back, AreOf}

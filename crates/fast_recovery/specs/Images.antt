@@ -10,7 +10,7 @@ use Rattle.chunk_map.specs.Checkpoints.{IsNewest}
 use Rattle.chunk_map.specs.Formatted.{HasLayout}
 use Rattle.log_records.specs.Entries.{Entry}
 use Rattle.log_files.specs.Log.{EndsWhole}
-use Rattle.log_buffer.specs.Kept.{tail_entries}
+use Rattle.fast_recovery.specs.KeptLog.{tail_entries}
 use Rattle.ids_model.specs.Tables.{Tables}
 use Rattle.ids_model.specs.Logged.{IsRecovered}
 use Rattle.fast_recovery.specs.Order.{open_in}

@@ -17,5 +17,6 @@ pub mod CatalogueRead
 pub mod RowsRead
 pub mod RowDamaged
 pub mod LogRead
+pub mod KeptLog
 pub mod Faults
 pub mod Opening

@@ -13,7 +13,7 @@ use Rattle.chunk_map.specs.Formatted.{HasLayout, IsFormatted, IsIdentityDamaged}
 use Rattle.log_records.specs.Entries.{Entry}
 use Rattle.log_records.specs.Bodies.{Body}
 use Rattle.log_files.specs.Log.{body_at, tail_from, IsBroken, EndsWhole}
-use Rattle.log_buffer.specs.Kept.{entries_in, tail_entries}
+use Rattle.fast_recovery.specs.KeptLog.{entries_in, tail_entries}
 use Rattle.ids_model.specs.Slots.{own_all}
 use Rattle.ids_model.specs.Recovered.{SlotChange, nothing, run, owns, AreOf}
 use Rattle.fast_recovery.specs.Images.{first_checkpoint, log_region, log_in, page_count}

@@ -3,6 +3,7 @@ use Rattle.std.specs.Prelude.{◌≡◌, ◌<◌, ◌≤◌, ◌⊎◌, ℕ, ◌
 use Rattle.std.specs.FinMap.{empty}
 use Rattle.ids_outside.specs.Counts.{last_count}
 use Rattle.ids_outside.specs.Images.{Image}
+use Rattle.ids_outside.specs.declared.disk.Disk.{Ghosts}
 use Rattle.ids_outside.specs.Stops.{Only}
 use Rattle.chunk_map.specs.declared.layout.Layout.{Layout}
 use Rattle.chunk_map.specs.Layouts.{IsLayout}
@@ -10,7 +11,7 @@ use Rattle.chunk_map.specs.Checkpoints.{IsNewest}
 use Rattle.chunk_map.specs.Formatted.{HasLayout, IsFormatted}
 use Rattle.log_files.specs.Files.{Files}
 use Rattle.log_buffer.specs.Buffers.{empty_at}
-use Rattle.log_buffer.specs.Kept.{Flushed, HasLog, KeepsLog, tail_entries}
+use Rattle.fast_recovery.specs.KeptLog.{Flushed, HasLog, KeepsLog, tail_entries}
 use Rattle.ids_model.specs.Tables.{Tables}
 use Rattle.ids_model.specs.Recovered.{nothing, run}
 use Rattle.fast_recovery.specs.Found.{IsKept}
@@ -27,6 +28,10 @@ use Rattle.fast_recovery.specs.declared.fault.OpenFault.TheVariants.{Disk, Memor
 -- the files of a layout, whose blocks from 1 on to before the next are retained, and no other may be taken
 abbrev pub files_from : Layout → ℕ → Files
 files_from l next = record { region = log_region l; file_blocks = l.log_size; first = 1; next = next; limit = next }
+
+-- for how many blocks the buffer of the log has room
+abbrev pub buffer_blocks : ℕ
+buffer_blocks = 8
 
 -- the layout of an image, and what the records of its log say
 pub record FoundIn (x : Image) (l : Layout) (p : Past) : Type 0 where
@@ -56,17 +61,17 @@ pub record IsOpened (o : Opened) : Type 0 where
   pub file_blocks : o.files.file_blocks ≡ o.layout.log_size
   pub first : o.files.first ≡ 1
   pub limit : o.files.limit ≡ 1 + o.layout.logs * o.layout.log_size
-  pub buffer : o.buffer ≡ empty_at o.files.next
+  pub buffer : o.buffer ≡ empty_at o.files.next buffer_blocks
   pub quiet : o.replay.standing ≡ []
   pub found : IsKept o.replay o.found.tables o.found.numbers o.found.greatest
 
 -- the log of an image is kept, with a ROLLBACK of the open transaction behind it
-pub record KeepsOpened {D : Type 0} (size : D → ℕ → ℕ) (now : D → ℕ) (image : D → Image) (can_leave : D → Image → Type 0) (left_at : D → ℕ → Image → Type 0)
+pub record KeepsOpened {D : Type 0} (means : Ghosts D)
     (since : ℕ) (x : Image) (o : Opened) (disk : D) : Type 0 where
   pub last : Option ℕ
   pub in_order : open_in None (log_in o.layout x) ≡ Some last
   pub marks : List Flushed
-  pub keeps : KeepsLog size now image can_leave left_at since x (log_in o.layout x) (closing last) marks o.files o.buffer disk
+  pub keeps : KeepsLog means since x (log_in o.layout x) (closing last) marks o.files o.buffer disk
 
 -- a moment since the call began; that of its beginning only where a stop could then leave nothing but the image that was read
 abbrev pub IsSince : {D : Type 0} → (D → ℕ) → (D → Image) → (D → Image → Type 0) → D → ℕ → Type 0

@@ -12,6 +12,7 @@ mod damage_tests;
 mod fault;
 mod in_place;
 pub mod laws;
+pub mod log_laws;
 mod names;
 mod numbers;
 pub mod opening;

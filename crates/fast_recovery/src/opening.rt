@@ -20,7 +20,7 @@ ghost use Rattle.log_records.specs.Entries.{Entry};
 ghost use Rattle.log_files.specs.Log.{body_at, EndsWhole};
 ghost use Rattle.log_files.specs.Files.{IsReady, all_free, taken};
 ghost use Rattle.log_buffer.specs.Buffers.{empty_at};
-ghost use Rattle.log_buffer.specs.Kept.{Flushed, KeepsLog, Outlives};
+ghost use Rattle.fast_recovery.specs.KeptLog.{Flushed, KeepsLog, Outlives};
 ghost use Rattle.ids_model.specs.Tables.{Tables};
 ghost use Rattle.ids_model.specs.Recovered.{run};
 ghost use Rattle.fast_recovery.specs.Found.{IsKept};
@@ -30,9 +30,10 @@ ghost use Rattle.fast_recovery.specs.Paged.{IsPaged};
 ghost use Rattle.fast_recovery.specs.PagedStates.{IsPagedState};
 ghost use Rattle.fast_recovery.specs.LogRead.{OpenCause, AreAlone};
 ghost use Rattle.fast_recovery.specs.RowDamaged.{RowsFault};
-ghost use Rattle.fast_recovery.specs.Opening.{files_from, FoundIn, SameLog, HasOpened, IsOpened, KeepsOpened, IsSince, OnlyBehind, IsUnsynced, TablesStay, IsWant, ClosingFault, IsRefusal, WasFormatted};
+ghost use Rattle.fast_recovery.specs.Opening.{buffer_blocks, files_from, FoundIn, SameLog, HasOpened, IsOpened, KeepsOpened, IsSince, OnlyBehind, IsUnsynced, TablesStay, IsWant, ClosingFault, IsRefusal, WasFormatted};
 
 use crate::fault::OpenFault;
+use crate::log_laws::{appends_keep, flushes_keep};
 use crate::past::Past;
 use crate::replay::Replay;
 use crate::roll_forward::read_log;
@@ -47,11 +48,13 @@ use ids_base::status::Place;
 use ids_model::recovery_laws::{rollbacks_are_seen, runs_join};
 use ids_outside::{Disk, laws};
 use log_buffer::LogBuffer;
-use log_buffer::laws::appends_keep;
 use log_files::LogFiles;
 use log_records::view::RecordView;
 use std::alloc::Global;
 use std::marker::Brand;
+
+/// For how many blocks the buffer of the log has room.
+const BUFFER_BLOCKS: u32 = 8;
 
 /// A disk that was opened.
 #[derive(Drop)]
@@ -91,10 +94,10 @@ pub fn open_log<D: Disk>(alloc: Global, disk: &mut D) -> Result<Opened, OpenFaul
     ensures in_order { IfOk result IsOpened }
     ensures lies { IfOk result (λ o. HasPages (D.size disk.old) o.layout) }
     ensures paged { IfOk result (λ o. IsPaged (o.layout.chunks * o.layout.data_pages) o.replay.own o.replay.slots) }
-    ensures ready { IfOk result (λ o. IsReady D.size D.image D.can_leave o.files disk.new) }
+    ensures ready { IfOk result (λ o. IsReady D.Disk o.files disk.new) }
     // Everything that is appended is kept from here on.
     ensures keeps { IfOk result (λ o. D.tells → (since : ℕ) → IsSince D.now D.image D.can_leave disk.old since
-        → KeepsOpened D.size D.now D.image D.can_leave D.left_at since (D.image disk.old) o disk.new) }
+        → KeepsOpened D.Disk since (D.image disk.old) o disk.new) }
     ensures any_moment { TablesStay D.now D.image D.can_leave D.left_at disk.old disk.new (result ≡ Err OpenFault.Disk) }
     ensures formatted { OnOk result (D.tells → IsFormatted (D.image disk.old)) }
     ensures was_formatted { IfErr result (λ e. D.tells → WasFormatted (D.image disk.old) e) }
@@ -215,8 +218,8 @@ fn start_log<D: Disk>(
     requires whole { D.tells → EndsWhole (log_region layout.now) 1 (D.image disk.old) }
 
     ensures files { IfOk result (λ r. r.0 ≡ all_free (files_from layout.now next)) }
-    ensures buffer { IfOk result (λ r. r.1 ≡ empty_at next) }
-    ensures ready { IfOk result (λ r. IsReady D.size D.image D.can_leave r.0 disk.new) }
+    ensures buffer { IfOk result (λ r. r.1 ≡ empty_at next buffer_blocks) }
+    ensures ready { IfOk result (λ r. IsReady D.Disk r.0 disk.new) }
     ensures any_moment { Leaves D.now D.can_leave D.left_at disk.old disk.new (SameLog (files_from layout.now next)) }
     ensures fault { IfErr result IsWant }
     ensures sizes { (j : ℕ) → D.size disk.new j ≡ D.size disk.old j }
@@ -226,7 +229,7 @@ fn start_log<D: Disk>(
     laws::started::<D, Brand>();
     laws::seen_as::<D, Brand, Brand>();
     changes();
-    let buffer = LogBuffer::new(alloc, next)?;
+    let buffer = LogBuffer::new(alloc, next, BUFFER_BLOCKS)?;
     let mut files = files_of(layout, next);
     files.clear_rest(disk)?;
     Ok((files, buffer))
@@ -260,8 +263,8 @@ fn close_log<D: Disk>(
     opened: &mut Opened,
     open_tx: Option<TxNo>,
 ) -> Result<(), OpenFault>
-    requires ready { IsReady D.size D.image D.can_leave opened.old.files disk.old }
-    requires buffer { opened.old.buffer ≡ empty_at opened.old.files.next }
+    requires ready { IsReady D.Disk opened.old.files disk.old }
+    requires buffer { opened.old.buffer ≡ empty_at opened.old.files.next buffer_blocks }
     requires number { opened.old.files.next < 2 ^ 63 }
 
     ensures layout { OnOk result (opened.new.layout ≡ opened.old.layout) }
@@ -269,13 +272,13 @@ fn close_log<D: Disk>(
     ensures replay { OnOk result (opened.new.replay ≡ opened.old.replay) }
     ensures found { OnOk result (opened.new.found ≡ opened.old.found) }
     ensures files { OnOk result (opened.new.files ≡ taken opened.old.files (length (closing open_tx))) }
-    ensures buffer { OnOk result (opened.new.buffer ≡ empty_at opened.new.files.next) }
+    ensures buffer { OnOk result (opened.new.buffer ≡ empty_at opened.new.files.next buffer_blocks) }
     // What is kept before it is kept on, with the ROLLBACK.
     ensures keeps { OnOk result ((since : ℕ) (base : Image) (before : List Entry)
-        → KeepsLog D.size D.now D.image D.can_leave D.left_at since base before [] [] opened.old.files opened.old.buffer disk.old
-        → (marks : List Flushed) × KeepsLog D.size D.now D.image D.can_leave D.left_at since base before (closing open_tx) marks opened.new.files opened.new.buffer disk.new) }
+        → KeepsLog D.Disk since base before [] [] opened.old.files opened.old.buffer disk.old
+        → (marks : List Flushed) × KeepsLog D.Disk since base before (closing open_tx) marks opened.new.files opened.new.buffer disk.new) }
     ensures outlives { OnErr result ((since : ℕ) (base : Image) (before : List Entry)
-        → KeepsLog D.size D.now D.image D.can_leave D.left_at since base before [] [] opened.old.files opened.old.buffer disk.old
+        → KeepsLog D.Disk since base before [] [] opened.old.files opened.old.buffer disk.old
         → Outlives D.now D.left_at since base before (closing open_tx) [] opened.old.files disk.new) }
     ensures fault { IfErr result (ClosingFault ((tx : ℕ) × (open_tx ≡ Some tx) × (opened.old.files.next ≡ opened.old.files.limit))) }
     ensures sizes { (j : ℕ) → D.size disk.new j ≡ D.size disk.old j }
@@ -283,6 +286,7 @@ fn close_log<D: Disk>(
     ensures cause { result ≡ Err OpenFault.Disk → Rose (D.fault_count disk.old) (D.fault_count disk.new) }
 {
     appends_keep::<D>();
+    flushes_keep::<D>();
     let Some(tx) = open_tx else {
         return Ok(());
     };

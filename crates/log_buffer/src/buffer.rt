@@ -1,15 +1,14 @@
 //! The buffer.
-ghost use Rattle.std.specs.Prelude.{◌≡◌, ◌<◌, ◌≤◌, ◌+◌, ◌^◌, ◌++◌, ℕ, List, [], ◌∷◌, length, map, true, IfOk, OnOk, OnErr};
+ghost use Rattle.std.specs.Prelude.{◌≡◌, ◌<◌, ◌≤◌, ◌+◌, ◌^◌, ◌++◌, ℕ, [], ◌∷◌, length, map, true, IfOk, OnOk, OnErr};
 ghost use Rattle.ids_outside.specs.Counts.{HasCause};
-ghost use Rattle.ids_outside.specs.Images.{Image};
-ghost use Rattle.ids_outside.specs.Stops.{Leaves};
-ghost use Rattle.log_records.specs.Entries.{Entry};
+ghost use Rattle.ids_outside.specs.Images.{SameBut};
+ghost use Rattle.gate_blocks.specs.Gates.{RegionPlaces};
 ghost use Rattle.log_records.specs.Viewed.{view_entry};
 ghost use Rattle.log_records.specs.Spelling.{entry_size};
 ghost use Rattle.log_records.specs.Bodies.{Body};
-ghost use Rattle.log_files.specs.Files.{AreNumbered, Appends, IsReady, retained, taken};
+ghost use Rattle.log_files.specs.Files.{AreNumbered, Appends, IsReady, IsRing, retained, taken};
+ghost use Rattle.log_files.specs.Moments.{Within};
 ghost use Rattle.log_buffer.specs.Buffers.{IsBuffer, empty_at, waiting, fits_last, joined, last_count, has_room, block_for, place_for, tail_of, appended, bodies};
-ghost use Rattle.log_buffer.specs.Kept.{Flushed, KeepsLog, Outlives};
 
 use ids_base::memory::Memory;
 use ids_base::position::LogPos;
@@ -20,36 +19,36 @@ use log_records::view::RecordView;
 use std::alloc::Global;
 use std::marker::Model;
 
-/// How many blocks may be begun.
-const BLOCKS: usize = 8;
-
-/// The buffer of the log. Contracts see the records of each block that is begun, and the number of the first of these.
+/// The buffer of the log. Contracts see the records of each block that is begun, the number of the first of these, and how many
+/// blocks there is room for.
 #[derive(Drop)]
 pub struct LogBuffer {
-    // Eight bodies, of which the first `begun` have records.
+    // A body for each block that there is room for; the first `begun` have records.
     bodies: Vec<BlockBody>,
     begun: usize,
     first: u64,
 }
 
 impl Model for LogBuffer {
+    ghost use Rattle.std.specs.Prelude.{length};
     ghost use Rattle.log_buffer.specs.Buffers.{Buffer};
     ghost use Rattle.log_buffer.specs.Holding.{begun_blocks, IsHeld};
 
     ghost Value = { Buffer };
 
-    ghost view = { λ a. record { first = a.first; blocks = begun_blocks a.begun a.bodies.items } };
+    ghost view = { λ a. record { first = a.first; room = length a.bodies.items; blocks = begun_blocks a.begun a.bodies.items } };
 
     ghost invariant = { λ a. IsHeld a.bodies.items a.begun a.first };
 }
 
 impl LogBuffer {
-    /// A buffer without records, whose first block will have this number. Takes all its memory here.
-    pub fn new(alloc: Global, first: u64) -> Result<LogBuffer, Memory>
-        ensures { IfOk result (λ b. b ≡ empty_at first) }
+    /// A buffer without records for so many blocks, of which the first will have this number. Takes all its memory here: 2 KB a
+    /// block; `Memory` where there is none.
+    pub fn new(alloc: Global, first: u64, room: u32) -> Result<LogBuffer, Memory>
+        ensures { IfOk result (λ b. b ≡ empty_at first room) }
     {
-        let mut bodies = Vec::with_capacity(alloc, BLOCKS)?;
-        for _ in 0..BLOCKS {
+        let mut bodies = Vec::with_capacity(alloc, room as usize)?;
+        for _ in 0..room {
             bodies.push_reserved(BlockBody::new(0));
         }
         Ok(LogBuffer {
@@ -59,11 +58,20 @@ impl LogBuffer {
         })
     }
 
-    /// Whether a record of this size has room: in the last block, or in one more of at most eight. Constant time.
-    pub fn has_room(&self, size: u16) -> bool
+    /// Whether a record of this size has room: in the last block, or in one more. Constant time.
+    pub fn has_room(&self, size: u32) -> bool
         ensures { result ≡ has_room self.now size }
     {
-        self.fits_last(size) || self.begun < BLOCKS
+        self.fits_last(size) || self.begun < self.bodies.len()
+    }
+
+    /// How many blocks the files may take for which no record waits here. Constant time.
+    pub fn empty_blocks(&self, files: &LogFiles) -> u64
+        requires numbered { self.now.first ≡ files.now.next }
+        requires room { files.now.next + length self.now.blocks ≤ files.now.limit }
+        ensures { result + length self.now.blocks + files.now.next ≡ files.now.limit }
+    {
+        files.free() - self.block_count()
     }
 
     /// The number of the block that a record of this size joins or begins. Constant time.
@@ -72,7 +80,11 @@ impl LogBuffer {
         ensures { result ≡ block_for self.now size }
     {
         let next = self.first + self.begun as u64;
-        if self.fits_last(size) { next - 1 } else { next }
+        if self.fits_last(u32::from(size)) {
+            next - 1
+        } else {
+            next
+        }
     }
 
     /// Puts a record at the end, and gives its place. Takes no memory; in time of the record's size, and of a block where one
@@ -86,7 +98,7 @@ impl LogBuffer {
     {
         let size = view.size();
         let block = self.block_for(size);
-        if self.fits_last(size) {
+        if self.fits_last(u32::from(size)) {
             let index = self.last_count();
             self.join(view);
             LogPos { block, index }
@@ -99,8 +111,7 @@ impl LogBuffer {
     /// How many blocks are begun. Constant time.
     pub fn block_count(&self) -> u64
         ensures count { result ≡ length self.now.blocks }
-        ensures few { result ≤ 8 }
-        // Each of them has a record, and no more than fit.
+        // No more than there is room for; each of them has a record, and no more than fit.
         ensures buffer { IsBuffer self.now }
     {
         self.begun as u64
@@ -128,27 +139,22 @@ impl LogBuffer {
         }
     }
 
-    /// Writes all records to the log files, and syncs. After it a stop leaves them all, and no block is begun. After a fault
-    /// the log is to be opened again. Takes no memory; the cost of `append_blocks`.
+    /// Writes all records to the log files, and syncs. After it a stop leaves them all, and no block is begun. After a fault the
+    /// buffer and the files are as they were, and the log is to be opened again. Takes no memory; the cost of `append_blocks`.
     pub fn flush<D: Disk>(&mut self, disk: &mut D, files: &mut LogFiles) -> Result<(), DiskFault>
-        requires ready { IsReady D.size D.image D.can_leave files.old disk.old }
+        requires ready { IsReady D.Disk files.old disk.old }
         requires numbered { self.old.first ≡ files.old.next }
         requires room { files.old.next + length self.old.blocks ≤ files.old.limit }
 
-        ensures emptied { OnOk result (self.new ≡ empty_at (self.old.first + length self.old.blocks)) }
+        ensures emptied { OnOk result (self.new ≡ empty_at (self.old.first + length self.old.blocks) self.old.room) }
         ensures err { OnErr result (self.new ≡ self.old) }
         ensures taken { OnOk result (files.new ≡ taken files.old (length self.old.blocks)) }
-        ensures ready { OnOk result (IsReady D.size D.image D.can_leave files.new disk.new) }
-        // What was appended is on the disk for good from now on.
-        ensures kept { OnOk result ((since : ℕ) (base : Image) (before all : List Entry) (marks : List Flushed)
-            → KeepsLog D.size D.now D.image D.can_leave D.left_at since base before all marks files.old self.old disk.old
-            → KeepsLog D.size D.now D.image D.can_leave D.left_at since base before all (marks ++ record { at = D.now disk.new; count = length all } ∷ []) files.new self.new disk.new) }
-        // A fault leaves a front of it, with at least what was flushed before.
-        ensures outlives { OnErr result ((since : ℕ) (base : Image) (before all : List Entry) (marks : List Flushed)
-            → KeepsLog D.size D.now D.image D.can_leave D.left_at since base before all marks files.old self.old disk.old
-            → Outlives D.now D.left_at since base before all marks files.old disk.new) }
+        ensures err_files { OnErr result (files.new ≡ files.old) }
+        ensures ready { OnOk result (IsReady D.Disk files.new disk.new) }
         ensures appended { OnOk result (D.tells → retained files.new (D.image disk.new) ≡ retained files.old (D.image disk.old) ++ bodies self.old.first self.old.blocks) }
-        ensures any_moment { Leaves D.now D.can_leave D.left_at disk.old disk.new (Appends files.old (bodies self.old.first self.old.blocks)) }
+        ensures any_moment { Within D.Disk disk.old disk.new (Appends files.old (bodies self.old.first self.old.blocks)) }
+        ensures shown { D.tells → SameBut (RegionPlaces files.old.region) (D.image disk.old) (D.image disk.new) }
+        ensures ring { IsRing files.old }
         ensures sizes { (j : ℕ) → D.size disk.new j ≡ D.size disk.old j }
         ensures cause { HasCause (D.fault_count disk.old) (D.fault_count disk.new) result }
     {
@@ -171,17 +177,20 @@ impl LogBuffer {
     // No block is begun, and the next goes on behind those that were.
     fn empty(&mut self)
         requires { self.old.first + length self.old.blocks < 2 ^ 64 }
-        ensures { self.new ≡ empty_at (self.old.first + length self.old.blocks) }
+        ensures { self.new ≡ empty_at (self.old.first + length self.old.blocks) self.old.room }
     {
         self.first += self.begun as u64;
         self.begun = 0;
     }
 
     // Whether a record of this size fits into the last block.
-    fn fits_last(&self, size: u16) -> bool
+    fn fits_last(&self, size: u32) -> bool
         ensures { result ≡ fits_last self.now.blocks size }
     {
-        self.begun > 0 && self.bodies[self.begun - 1].has_room(size)
+        if self.begun == 0 || size as usize > RECORD_BYTES {
+            return false;
+        }
+        self.bodies[self.begun - 1].has_room(size as u16)
     }
 
     // How many records the last block has.
@@ -206,7 +215,7 @@ impl LogBuffer {
 
     // Begins a block with a record.
     fn begin(&mut self, view: RecordView)
-        requires room { length self.old.blocks < 8 }
+        requires room { length self.old.blocks < self.old.room }
         requires number { self.old.first < 2 ^ 63 }
         ensures { self.new ≡ record self.old { blocks = self.old.blocks ++ (view_entry view.entry ∷ []) ∷ [] } }
     {

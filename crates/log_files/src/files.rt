@@ -1,15 +1,18 @@
 //! The log files.
 ghost use Rattle.std.specs.Prelude.{◌≡◌, ◌<◌, ◌≤◌, ◌+◌, ◌-◌, ◌^◌, ◌++◌, ◌↔◌, ℕ, [], length, IsTrue, IfOk, OnOk, OnErr, Some, slice_index_or};
 ghost use Rattle.ids_outside.specs.Counts.{HasCause};
-ghost use Rattle.ids_outside.specs.Images.{Image};
-ghost use Rattle.ids_outside.specs.Stops.{AreAmong, Leaves, Only};
+ghost use Rattle.gate_blocks.specs.Gates.{RegionPlaces};
+ghost use Rattle.ids_outside.specs.Images.{Image, SameBut};
+ghost use Rattle.ids_outside.specs.Stops.{AreAmong, Only};
 ghost use Rattle.log_records.specs.Bodies.{Body, body_of};
 ghost use Rattle.log_files.specs.Log.{IsReadAs, body_at, bodies_from, ring_place};
-ghost use Rattle.log_files.specs.Files.{IsRing, IsReady, IsRead, HasFiles, AreNumbered, Count, Grows, Appends, Clears, KeepsRetained, retained, taken, freed, all_free, next_free};
+ghost use Rattle.log_files.specs.Moments.{Within};
+ghost use Rattle.log_files.specs.Files.{IsRing, IsReady, IsRead, HasFiles, AreNumbered, Count, Grows, Appends, Clears, KeepsRetained, retained, taken, freed, all_free, next_free, file_start, file_end};
 
 use crate::read::{BlockRead, read_as};
 use gate_blocks::laws::{changes, elsewhere};
 use gate_blocks::{Region, clear_some, open_gates, read_open, write_bodies};
+use ids_base::position::LogPos;
 use ids_outside::{Disk, DiskFault, laws};
 use log_records::block_body::BlockBody;
 use log_records::body_bytes::body_to_bytes;
@@ -80,6 +83,31 @@ impl LogFiles {
         self.region
     }
 
+    /// The block behind those that may be taken: the first of a file, or the next block where none may be taken.
+    pub fn limit(&self) -> u64
+        ensures limit { result ≡ self.now.limit }
+        ensures ring { IsRing self.now }
+    {
+        self.limit
+    }
+
+    /// The first block of the file that holds a block. Constant time.
+    pub fn file_start(&self, block: u64) -> u64
+        requires counted { 1 ≤ block }
+        ensures start { result ≡ file_start self.now block }
+    {
+        block - (block - 1) % u64::from(self.file_blocks)
+    }
+
+    /// The first block of the file behind the one that holds a block. Constant time.
+    pub fn file_end(&self, block: u64) -> u64
+        requires counted { 1 ≤ block }
+        requires fits { block < 2 ^ 63 }
+        ensures end { result ≡ file_end self.now block }
+    {
+        self.file_start(block) + u64::from(self.file_blocks)
+    }
+
     /// How many blocks may be taken.
     pub fn free(&self) -> u64
         ensures free { result + self.now.next ≡ self.now.limit }
@@ -90,34 +118,54 @@ impl LogFiles {
 
     /// Writes bodies to the next blocks, opens their gates, and syncs: two syncs for eight bodies, and two more where they go
     /// round the end of the ring. A stop at any moment leaves the blocks as they were with some of the new ones, none
-    /// skipped. After a fault the log is to be opened again. Takes no memory.
+    /// skipped. After a fault no block is taken, and the log is to be opened again. Takes no memory.
     pub fn append_blocks<D: Disk>(
         &mut self,
         disk: &mut D,
         bodies: &[BlockBody],
     ) -> Result<(), DiskFault>
-        requires ready { IsReady D.size D.image D.can_leave self.old disk.old }
+        requires ready { IsReady D.Disk self.old disk.old }
         requires room { self.old.next + length bodies.now ≤ self.old.limit }
         requires numbered { AreNumbered self.old.next bodies.now }
 
         ensures taken { OnOk result (self.new ≡ taken self.old (length bodies.now)) }
-        ensures err { OnErr result ((n : ℕ) × (n ≤ length bodies.now) × (self.new ≡ taken self.old n)) }
-        ensures ready { OnOk result (IsReady D.size D.image D.can_leave self.new disk.new) }
+        ensures err { OnErr result (self.new ≡ self.old) }
+        ensures ready { OnOk result (IsReady D.Disk self.new disk.new) }
         ensures appended { OnOk result (D.tells → retained self.new (D.image disk.new) ≡ retained self.old (D.image disk.old) ++ bodies.now) }
-        ensures any_moment { Leaves D.now D.can_leave D.left_at disk.old disk.new (Appends self.old bodies.now) }
+        ensures any_moment { Within D.Disk disk.old disk.new (Appends self.old bodies.now) }
+        ensures shown { D.tells → SameBut (RegionPlaces self.old.region) (D.image disk.old) (D.image disk.new) }
+        ensures sizes { (j : ℕ) → D.size disk.new j ≡ D.size disk.old j }
+        ensures cause { HasCause (D.fault_count disk.old) (D.fault_count disk.new) result }
+    {
+        let free = self.free();
+        prove!(bodies.len() as u64 <= free);
+        self.write_groups(disk, bodies)?;
+        self.take(bodies.len());
+        Ok(())
+    }
+
+    // Writes bodies to the next blocks, group by group.
+    fn write_groups<D: Disk>(&self, disk: &mut D, bodies: &[BlockBody]) -> Result<(), DiskFault>
+        requires ready { IsReady D.Disk self.now disk.old }
+        requires room { self.now.next + length bodies.now ≤ self.now.limit }
+        requires numbered { AreNumbered self.now.next bodies.now }
+
+        ensures ready { OnOk result (IsReady D.Disk (taken self.now (length bodies.now)) disk.new) }
+        ensures appended { OnOk result (D.tells → retained (taken self.now (length bodies.now)) (D.image disk.new) ≡ retained self.now (D.image disk.old) ++ bodies.now) }
+        ensures any_moment { Within D.Disk disk.old disk.new (Appends self.now bodies.now) }
+        ensures shown { D.tells → SameBut (RegionPlaces self.now.region) (D.image disk.old) (D.image disk.new) }
         ensures sizes { (j : ℕ) → D.size disk.new j ≡ D.size disk.old j }
         ensures cause { HasCause (D.fault_count disk.old) (D.fault_count disk.new) result }
     {
         laws::started::<D, Brand>();
         laws::then::<D, Brand, Brand, Brand>();
         laws::seen_as::<D, Brand, Brand>();
-        let free = self.free();
-        prove!(bodies.len() as u64 <= free);
+        let mut files = self.copy();
         let mut done = 0;
         while done < bodies.len() {
-            let count = self.group_len(bodies.len() - done);
-            self.write_group(disk, &bodies[done..done + count])?;
-            self.take(count);
+            let count = files.group_len(bodies.len() - done);
+            files.write_group(disk, &bodies[done..done + count])?;
+            files.take(count);
             done += count;
         }
         Ok(())
@@ -132,7 +180,7 @@ impl LogFiles {
         ensures read { IfOk result (λ found. D.tells → IsReadAs self.now.region block (D.image disk.old) found) }
         ensures same { D.image disk.new ≡ D.image disk.old }
         ensures stop { AreAmong (D.can_leave disk.new) (D.can_leave disk.old) }
-        ensures any_moment { Leaves D.now D.can_leave D.left_at disk.old disk.new (λ x y. y ≡ x) }
+        ensures any_moment { Within D.Disk disk.old disk.new (λ x y. y ≡ x) }
         ensures sizes { (j : ℕ) → D.size disk.new j ≡ D.size disk.old j }
         ensures cause { HasCause (D.fault_count disk.old) (D.fault_count disk.new) result }
     {
@@ -150,16 +198,17 @@ impl LogFiles {
     }
 
     /// At opening, when the retained blocks were read: closes the gate of each other block, and syncs. Then each place that is
-    /// not retained may be taken. A stop at any moment leaves the retained blocks, and none behind them. A read for each
-    /// such block, and a write for each open gate.
+    /// not retained may be taken, but those before the first block in its file. A stop at any moment leaves the retained
+    /// blocks, and none behind them. A read for each such block, and a write for each open gate.
     pub fn clear_rest<D: Disk>(&mut self, disk: &mut D) -> Result<(), DiskFault>
-        requires { IsRead D.size D.image D.can_leave self.old disk.old }
+        requires { IsRead D.Disk self.old disk.old }
 
         ensures free { OnOk result (self.new ≡ all_free self.old) }
         ensures err { OnErr result (self.new ≡ self.old) }
-        ensures ready { OnOk result (IsReady D.size D.image D.can_leave self.new disk.new) }
+        ensures ready { OnOk result (IsReady D.Disk self.new disk.new) }
         ensures same { OnOk result (D.tells → retained self.new (D.image disk.new) ≡ retained self.old (D.image disk.old)) }
-        ensures any_moment { Leaves D.now D.can_leave D.left_at disk.old disk.new (Clears self.old) }
+        ensures any_moment { Within D.Disk disk.old disk.new (Clears self.old) }
+        ensures shown { D.tells → SameBut (RegionPlaces self.old.region) (D.image disk.old) (D.image disk.new) }
         ensures sizes { (j : ℕ) → D.size disk.new j ≡ D.size disk.old j }
         ensures cause { HasCause (D.fault_count disk.old) (D.fault_count disk.new) result }
     {
@@ -168,41 +217,41 @@ impl LogFiles {
         Ok(())
     }
 
-    /// The blocks before this one are no longer retained. Their places are as they were, and no more blocks may be taken.
-    /// A disk of this kind that was ready stays so. Constant time.
-    pub fn free_before<D: Disk>(&mut self, block: u64)
-        requires from { self.old.first ≤ block }
-        requires to { block ≤ self.old.next }
-        requires fits { block + self.old.region.count < 2 ^ 64 }
+    /// The blocks before this position's are no longer retained. Their places are as they were, and no more blocks may be taken.
+    /// A disk that was ready stays so (`laws::freeing_keeps_ready`). Constant time.
+    pub fn free_before(&mut self, pos: LogPos)
+        requires from { self.old.first ≤ pos.block }
+        requires to { pos.block ≤ self.old.next }
+        requires fits { pos.block + self.old.region.count < 2 ^ 64 }
 
-        ensures freed { self.new ≡ freed self.old block }
-        ensures ready { (disk : D) → IsReady D.size D.image D.can_leave self.old disk → IsReady D.size D.image D.can_leave self.new disk }
+        ensures freed { self.new ≡ freed self.old pos.block }
         // The retained bodies were those that are freed, and then those that stay.
         ensures parted { (x : Image) → HasFiles self.old x
-            → retained self.old x ≡ bodies_from self.old.region self.old.first (block - self.old.first) x ++ retained self.new x }
+            → retained self.old x ≡ bodies_from self.old.region self.old.first (pos.block - self.old.first) x ++ retained self.new x }
     {
-        self.begin_at(block);
+        self.first = pos.block;
     }
 
     /// Whether no place of the next file is retained, so that it may be cleared. Constant time.
     pub fn can_clear_next(&self) -> bool
-        ensures { IsTrue result ↔ (self.now.limit + self.now.file_blocks ≤ self.now.first + self.now.region.count) }
+        ensures { IsTrue result ↔ (file_end self.now self.now.limit ≤ self.now.first + self.now.region.count) }
     {
-        u64::from(self.file_blocks) <= self.first + u64::from(self.region.count) - self.limit
+        u64::from(self.next_len()) <= self.first + u64::from(self.region.count) - self.limit
     }
 
-    /// Closes the gates of the next file's blocks behind those that may be taken, and syncs. Then these may be taken too. A stop
-    /// at any moment leaves the retained blocks, and none behind them. A read for each block, a write for each open gate, and
-    /// three syncs. Takes no memory.
+    /// Closes the gates of the next file's blocks behind those that may be taken, and syncs. Then these may be taken too. Where
+    /// the limit stands within a file, these are the rest of its blocks. A stop at any moment leaves the retained blocks, and
+    /// none behind them. A read for each block, a write for each open gate, and three syncs. Takes no memory.
     pub fn clear_next<D: Disk>(&mut self, disk: &mut D) -> Result<(), DiskFault>
-        requires ready { IsReady D.size D.image D.can_leave self.old disk.old }
-        requires room { self.old.limit + self.old.file_blocks ≤ self.old.first + self.old.region.count }
+        requires ready { IsReady D.Disk self.old disk.old }
+        requires room { file_end self.old self.old.limit ≤ self.old.first + self.old.region.count }
 
         ensures free { OnOk result (self.new ≡ next_free self.old) }
         ensures err { OnErr result (self.new ≡ self.old) }
-        ensures ready { OnOk result (IsReady D.size D.image D.can_leave self.new disk.new) }
+        ensures ready { OnOk result (IsReady D.Disk self.new disk.new) }
         ensures same { OnOk result (D.tells → retained self.new (D.image disk.new) ≡ retained self.old (D.image disk.old)) }
-        ensures any_moment { Leaves D.now D.can_leave D.left_at disk.old disk.new (Clears self.old) }
+        ensures any_moment { Within D.Disk disk.old disk.new (Clears self.old) }
+        ensures shown { D.tells → SameBut (RegionPlaces self.old.region) (D.image disk.old) (D.image disk.new) }
         ensures sizes { (j : ℕ) → D.size disk.new j ≡ D.size disk.old j }
         ensures cause { HasCause (D.fault_count disk.old) (D.fault_count disk.new) result }
     {
@@ -216,23 +265,45 @@ impl LogFiles {
         Ok(())
     }
 
+    // The same files, for a call that may fail half way.
+    fn copy(&self) -> LogFiles
+        ensures same { result ≡ self.now }
+        ensures ring { IsRing self.now }
+    {
+        LogFiles {
+            region: self.region,
+            file_blocks: self.file_blocks,
+            first: self.first,
+            next: self.next,
+            limit: self.limit,
+        }
+    }
+
     // One more file may be taken.
     fn free_next(&mut self)
-        requires { self.old.limit + self.old.file_blocks ≤ self.old.first + self.old.region.count }
+        requires { file_end self.old self.old.limit ≤ self.old.first + self.old.region.count }
         ensures { self.new ≡ next_free self.old }
     {
-        self.limit += u64::from(self.file_blocks);
+        self.limit += u64::from(self.next_len());
+    }
+
+    // How many blocks there are from the limit to the end of its file.
+    fn next_len(&self) -> u32
+        ensures { self.now.limit + result ≡ file_end self.now self.now.limit }
+    {
+        self.file_blocks - ((self.limit - 1) % u64::from(self.file_blocks)) as u32
     }
 
     // Closes the gates of the next file's blocks, behind a sync.
     fn close_next<D: Disk>(&self, disk: &mut D) -> Result<(), DiskFault>
-        requires ready { IsReady D.size D.image D.can_leave self.now disk.old }
+        requires ready { IsReady D.Disk self.now disk.old }
         requires settled { Only (D.image disk.old) (D.can_leave disk.old) }
-        requires room { self.now.limit + self.now.file_blocks ≤ self.now.first + self.now.region.count }
+        requires room { file_end self.now self.now.limit ≤ self.now.first + self.now.region.count }
 
-        ensures ready { OnOk result (IsReady D.size D.image D.can_leave (next_free self.now) disk.new) }
+        ensures ready { OnOk result (IsReady D.Disk (next_free self.now) disk.new) }
         ensures kept { OnOk result (D.tells → KeepsRetained self.now (D.image disk.old) (D.image disk.new)) }
-        ensures any_moment { Leaves D.now D.can_leave D.left_at disk.old disk.new (Clears self.now) }
+        ensures any_moment { Within D.Disk disk.old disk.new (Clears self.now) }
+        ensures shown { D.tells → SameBut (RegionPlaces self.now.region) (D.image disk.old) (D.image disk.new) }
         ensures sizes { (j : ℕ) → D.size disk.new j ≡ D.size disk.old j }
         ensures cause { HasCause (D.fault_count disk.old) (D.fault_count disk.new) result }
     {
@@ -241,50 +312,29 @@ impl LogFiles {
         elsewhere();
         changes();
         let region = self.region();
-        let count = self.file_blocks();
+        let count = self.next_len();
         let at = self.place(self.limit());
         let straight = count.min(region.count - at);
         clear_some(disk, &region, at, straight)?;
         clear_some(disk, &region, 0, count - straight)
     }
 
-    fn file_blocks(&self) -> u32
-        ensures { result ≡ self.now.file_blocks }
-    {
-        self.file_blocks
-    }
-
-    fn limit(&self) -> u64
-        ensures limit { result ≡ self.now.limit }
-        ensures ring { IsRing self.now }
-    {
-        self.limit
-    }
-
-    // The blocks from this one on are retained.
-    fn begin_at(&mut self, block: u64)
-        requires from { self.old.first ≤ block }
-        requires to { block ≤ self.old.next }
-        requires fits { block + self.old.region.count < 2 ^ 64 }
-        ensures { self.new ≡ freed self.old block }
-    {
-        self.first = block;
-    }
-
     // Each block that is not retained may be taken.
     fn free_rest(&mut self)
         ensures { self.new ≡ all_free self.old }
     {
-        self.limit = self.first + u64::from(self.region.count);
+        let turn = self.file_start(self.first) + u64::from(self.region.count);
+        self.limit = turn.max(self.next);
     }
 
     // Closes the gates of the places that are not retained.
     fn close_rest<D: Disk>(&self, disk: &mut D) -> Result<(), DiskFault>
-        requires { IsRead D.size D.image D.can_leave self.now disk.old }
+        requires { IsRead D.Disk self.now disk.old }
 
-        ensures ready { OnOk result (IsReady D.size D.image D.can_leave (all_free self.now) disk.new) }
+        ensures ready { OnOk result (IsReady D.Disk (all_free self.now) disk.new) }
         ensures kept { OnOk result (D.tells → KeepsRetained self.now (D.image disk.old) (D.image disk.new)) }
-        ensures any_moment { Leaves D.now D.can_leave D.left_at disk.old disk.new (Clears self.now) }
+        ensures any_moment { Within D.Disk disk.old disk.new (Clears self.now) }
+        ensures shown { D.tells → SameBut (RegionPlaces self.now.region) (D.image disk.old) (D.image disk.new) }
         ensures sizes { (j : ℕ) → D.size disk.new j ≡ D.size disk.old j }
         ensures cause { HasCause (D.fault_count disk.old) (D.fault_count disk.new) result }
     {
@@ -331,16 +381,17 @@ impl LogFiles {
 
     // Writes bodies to the next blocks, which do not go round the end of the ring, and opens their gates.
     fn write_group<D: Disk>(&self, disk: &mut D, bodies: &[BlockBody]) -> Result<(), DiskFault>
-        requires ready { IsReady D.size D.image D.can_leave self.now disk.old }
+        requires ready { IsReady D.Disk self.now disk.old }
         requires room { self.now.next + length bodies.now ≤ self.now.limit }
         requires numbered { AreNumbered self.now.next bodies.now }
         requires few { length bodies.now ≤ GROUP }
         requires straight { ring_place self.now.region self.now.next + length bodies.now ≤ self.now.region.count }
 
-        ensures ready { OnOk result (IsReady D.size D.image D.can_leave (taken self.now (length bodies.now)) disk.new) }
+        ensures ready { OnOk result (IsReady D.Disk (taken self.now (length bodies.now)) disk.new) }
         ensures kept { OnOk result (D.tells → KeepsRetained self.now (D.image disk.old) (D.image disk.new)) }
         ensures counted { OnOk result (D.tells → Count self.now.region self.now.next bodies.now (D.image disk.new)) }
-        ensures any_moment { Leaves D.now D.can_leave D.left_at disk.old disk.new (Grows self.now bodies.now) }
+        ensures any_moment { Within D.Disk disk.old disk.new (Grows self.now bodies.now) }
+        ensures shown { D.tells → SameBut (RegionPlaces self.now.region) (D.image disk.old) (D.image disk.new) }
         ensures sizes { (j : ℕ) → D.size disk.new j ≡ D.size disk.old j }
         ensures cause { HasCause (D.fault_count disk.old) (D.fault_count disk.new) result }
     {

@@ -1,12 +1,13 @@
-use Rattle.std.proofs.Common.{◌≡◌, inl, inr, ◌≤◌, ◌+◌, ◌*◌, ℕ, true, [], ◌++◌, Option, Some, None, arith, sym, subst, ap, ◌∙◌, refl}
+use Rattle.std.proofs.Common.{◌≡◌, inl, inr, ◌≤◌, ◌+◌, ◌*◌, ℕ, true, [], ◌++◌, length, Option, Some, None, rules, arith, sym, subst, ap, ◌∙◌, refl}
 use Rattle.std.specs.FinMap.{empty}
 use Rattle.ids_outside.specs.Images.{Image}
 use Rattle.ids_outside.specs.Stops.{Only}
 use Rattle.chunk_map.specs.declared.layout.Layout.{Layout}
 use Rattle.chunk_map.specs.Formatted.{HasLayout}
+use Rattle.chunk_map.specs.Layouts.{IsLayout}
 use Rattle.log_files.specs.Log.{body_at, EndsWhole}
-use Rattle.log_files.specs.Files.{Files}
-use Rattle.log_buffer.specs.Kept.{KeepsLog}
+use Rattle.log_files.specs.Files.{Files, all_free, taken}
+use Rattle.fast_recovery.specs.KeptLog.{KeepsLog}
 use Rattle.ids_model.specs.Recovered.{State, nothing, run}
 use Rattle.ids_model.specs.Tables.{Tables}
 use Rattle.fast_recovery.specs.Images.{log_region, log_in, page_count, Recovers}
@@ -17,16 +18,16 @@ use Rattle.fast_recovery.specs.PagedStates.{IsPagedState}
 use Rattle.fast_recovery.specs.Rising.{all_rise, greatest_in}
 use Rattle.fast_recovery.specs.LogRead.{OpenCause}
 use Rattle.fast_recovery.specs.RowDamaged.{RowsFault}
-use Rattle.fast_recovery.specs.Opening.{files_from, KeepsTables, WasFormatted, IsWant, ClosingFault, IsRefusal}
+use Rattle.fast_recovery.specs.Opening.{buffer_blocks, files_from, KeepsTables, WasFormatted, IsWant, ClosingFault, IsRefusal}
 use Rattle.fast_recovery.proofs.BlocksRead.{length-held}
 use Rattle.fast_recovery.proofs.Accepted.{accepted, want-accepted, closing-accepted}
 use Rattle.fast_recovery.proofs.Causes.{closing-cause, rows-cause, is-formatted}
 use Rattle.fast_recovery.proofs.Paging.{paged-closing}
 use Rattle.fast_recovery.proofs.Results.{err-goes-up, disk-fault, not-failed, at-err}
-use Rattle.fast_recovery.proofs.Keeping.{same-since, keeps-cleared}
+use Rattle.fast_recovery.proofs.Keeping.{limit-is, same-since, keeps-cleared}
 use Rattle.fast_recovery.proofs.Stopping.{each-since, stays-for, read-tables}
 use Rattle.fast_recovery.proofs.EmptyBase.{Laws}
-use Rattle.fast_recovery.proofs.SeenTables.{keeps-tables}
+use Rattle.fast_recovery.proofs.SeenTables.{closed-standing, keeps-tables}
 use Rattle.fast_recovery.proofs.opening.open_log.Goals as goal
 
 pub start_log-requires-clause-held : goal.start_log-requires-clause-held
@@ -86,7 +87,7 @@ returns-in_err-files-clause-any_moment g c = λ room.
     let laws : Laws = record { apart = c.apart.ensures.blocks; pages = c.same_pages.ensures.apart; newest = c.same_pages.ensures.newest } in
     let settled : Only base (d.can_leave mid) = subst (λ (w : Image). Only w (d.can_leave mid)) c.read_disk.ensures.same c.in_ok-layout.ensures.settled in
     let found = c.in_ok-layout.ensures.found (g.met.D.Disk.left_tells new m y left) in
-    let same = same-since d.size d.now d.image d.can_leave d.left_at g.met.D.Disk.no_later g.met.D.Disk.only_now old mid new f found.read.whole c.read_disk.ensures.any_moment (not-failed _ _ c.in_ok-layout.ensures.behind) settled
+    let same = same-since d g.met.D.Disk.no_later g.met.D.Disk.only_now old mid new f found.read.whole c.read_disk.ensures.any_moment (not-failed _ _ c.in_ok-layout.ensures.behind) settled
     c.start_log.ensures.any_moment room m y since left in
     keeps-tables c.runs_join.ensures c.rollbacks_are_seen.ensures laws c.one_of_each.ensures.layout l f p.open_tx [] (closing p.open_tx) base y
     refl refl found.layout found.read.after.order refl same)
@@ -98,7 +99,7 @@ returns-in_err-close_log-clause-any_moment g c = λ room.
     each-since d.now d.image d.can_leave d.left_at old new _ (λ m y. KeepsTables base y) (λ m y since left.
     let laws : Laws = record { apart = c.apart.ensures.blocks; pages = c.same_pages.ensures.apart; newest = c.same_pages.ensures.newest } in
     let settled : Only base (d.can_leave mid) = subst (λ (w : Image). Only w (d.can_leave mid)) c.read_disk.ensures.same c.in_ok-layout.ensures.settled in
-    let keeps = keeps-cleared d.size d.now d.image d.can_leave d.left_at g.met.D.Disk.no_later g.met.D.Disk.only_now old mid start l p.next c.in_ok-files.files c.in_ok-files.buffer m
+    let keeps = keeps-cleared d g.met.D.Disk.no_later g.met.D.Disk.only_now old mid start l p.next c.in_ok-files.files c.in_ok-files.buffer buffer_blocks m
     c.in_ok-files.ensures.files c.in_ok-files.ensures.buffer c.in_ok-files.ensures.ready (λ m y left. (c.in_ok-layout.ensures.found (g.met.D.Disk.left_tells start m y left)).read.whole) c.read_disk.ensures.any_moment (not-failed _ _ c.in_ok-layout.ensures.behind) settled c.start_log.ensures.any_moment
     since in
     let found = c.in_ok-layout.ensures.found (g.met.D.Disk.left_tells new m y left) in
@@ -122,7 +123,7 @@ returns-in_err-close_log-clause-fault g c =
     let found = c.in_ok-layout.ensures.found tells in
     subst (λ k. OpenCause base k) (sym same) (closing-cause base _ c.in_err-close_log.field-0.0 (λ full.
     let next : p.next ≡ 1 + l.logs * l.log_size =
-    sym (ap (λ (t : Files). t.next) c.in_ok-files.ensures.files) ∙ full.2 ∙ ap (λ (t : Files). t.limit) c.in_ok-files.ensures.files in
+    sym (ap (λ (t : Files). t.next) c.in_ok-files.ensures.files) ∙ full.2 ∙ ap (λ (t : Files). t.limit) c.in_ok-files.ensures.files ∙ limit-is l p.next c.in_ok-layout.ensures.to in
     record {
       layout = l;
       has = found.layout;
@@ -161,7 +162,7 @@ returns-clause-ready g c =
     let d = g.D.Disk in let old = c.args.disk.now in let base = d.image old in let l = c.in_ok-layout.layout in let p = c.in_ok-layout.past in
     let mid = c.read_disk.new.disk in let start = c.start_log.new.disk in
     let settled : Only base (d.can_leave mid) = subst (λ (w : Image). Only w (d.can_leave mid)) c.read_disk.ensures.same c.in_ok-layout.ensures.settled in
-    let keeps = keeps-cleared d.size d.now d.image d.can_leave d.left_at g.met.D.Disk.no_later g.met.D.Disk.only_now old mid start l p.next c.in_ok-files.files c.in_ok-files.buffer (d.now old + 1)
+    let keeps = keeps-cleared d g.met.D.Disk.no_later g.met.D.Disk.only_now old mid start l p.next c.in_ok-files.files c.in_ok-files.buffer buffer_blocks (d.now old + 1)
     c.in_ok-files.ensures.files c.in_ok-files.ensures.buffer c.in_ok-files.ensures.ready (λ m y left. (c.in_ok-layout.ensures.found (g.met.D.Disk.left_tells start m y left)).read.whole) c.read_disk.ensures.any_moment (not-failed _ _ c.in_ok-layout.ensures.behind) settled c.start_log.ensures.any_moment (inr (omega arith)) in
     (c.in_ok-close_log.ensures.keeps (d.now old + 1) base (log_in l base) keeps).1.ready
 
@@ -172,14 +173,14 @@ returns-clause-keeps g c = λ tells since is.
     let o = c.close_log.new.opened in
     let settled : Only base (d.can_leave mid) = subst (λ (w : Image). Only w (d.can_leave mid)) c.read_disk.ensures.same c.in_ok-layout.ensures.settled in
     let kept = c.in_ok-close_log.ensures.keeps since base (log_in l base)
-    (keeps-cleared d.size d.now d.image d.can_leave d.left_at g.met.D.Disk.no_later g.met.D.Disk.only_now old mid start l p.next c.in_ok-files.files c.in_ok-files.buffer since
+    (keeps-cleared d g.met.D.Disk.no_later g.met.D.Disk.only_now old mid start l p.next c.in_ok-files.files c.in_ok-files.buffer buffer_blocks since
     c.in_ok-files.ensures.files c.in_ok-files.ensures.buffer c.in_ok-files.ensures.ready (λ m y left. (c.in_ok-layout.ensures.found (g.met.D.Disk.left_tells start m y left)).read.whole) c.read_disk.ensures.any_moment (not-failed _ _ c.in_ok-layout.ensures.behind) settled c.start_log.ensures.any_moment is) in
     let found = c.in_ok-layout.ensures.found tells in let lay = c.in_ok-close_log.ensures.layout in
     record {
       last = p.open_tx;
       in_order = ap (λ (k : Layout). open_in None (log_in k base)) lay ∙ found.read.after.order;
       marks = kept.0;
-      keeps = subst (λ (k : Layout). KeepsLog d.size d.now d.image d.can_leave d.left_at since base (log_in k base) (closing p.open_tx) kept.0 o.files o.buffer new) (sym lay) kept.1;
+      keeps = subst (λ (k : Layout). KeepsLog d since base (log_in k base) (closing p.open_tx) kept.0 o.files o.buffer new) (sym lay) kept.1;
     }
 
 pub returns-clause-any_moment : goal.returns-clause-any_moment
@@ -190,7 +191,7 @@ returns-clause-any_moment g c = λ room.
     each-since d.now d.image d.can_leave d.left_at old new _ (λ m y. KeepsTables base y) (λ m y since left.
     let laws : Laws = record { apart = c.apart.ensures.blocks; pages = c.same_pages.ensures.apart; newest = c.same_pages.ensures.newest } in
     let settled : Only base (d.can_leave mid) = subst (λ (w : Image). Only w (d.can_leave mid)) c.read_disk.ensures.same c.in_ok-layout.ensures.settled in
-    let keeps = keeps-cleared d.size d.now d.image d.can_leave d.left_at g.met.D.Disk.no_later g.met.D.Disk.only_now old mid start l p.next c.in_ok-files.files c.in_ok-files.buffer m
+    let keeps = keeps-cleared d g.met.D.Disk.no_later g.met.D.Disk.only_now old mid start l p.next c.in_ok-files.files c.in_ok-files.buffer buffer_blocks m
     c.in_ok-files.ensures.files c.in_ok-files.ensures.buffer c.in_ok-files.ensures.ready (λ m y left. (c.in_ok-layout.ensures.found (g.met.D.Disk.left_tells start m y left)).read.whole) c.read_disk.ensures.any_moment (not-failed _ _ c.in_ok-layout.ensures.behind) settled c.start_log.ensures.any_moment
     since in
     let found = c.in_ok-layout.ensures.found (g.met.D.Disk.left_tells new m y left) in
@@ -236,3 +237,25 @@ returns-in_err-found-clause-accepts g c =
 pub start_log-requires-clause-whole : goal.start_log-requires-clause-whole
 start_log-requires-clause-whole g c = λ tells.
     subst (λ (y : Image). EndsWhole (log_region c.in_ok-layout.layout) 1 y) (sym c.read_disk.ensures.same) (c.in_ok-layout.ensures.found tells).read.whole
+
+pub returns-in_err-close_log-clause-sizes : goal.returns-in_err-close_log-clause-sizes
+returns-in_err-close_log-clause-sizes g c = λ j. c.close_log.ensures.sizes j ∙ c.start_log.ensures.sizes j ∙ c.read_disk.ensures.sizes j
+
+pub returns-clause-sizes : goal.returns-clause-sizes
+returns-clause-sizes g c = λ j. c.close_log.ensures.sizes j ∙ c.start_log.ensures.sizes j ∙ c.read_disk.ensures.sizes j
+
+pub returns-clause-in_order : goal.returns-clause-in_order
+returns-clause-in_order g c =
+    let l = c.in_ok-layout.layout in let p = c.in_ok-layout.past in let close = c.in_ok-close_log.ensures in let lay : l ≡ c.close_log.new.opened.layout = sym close.layout in
+    let n : ℕ = length (closing p.open_tx) in
+    let files : c.close_log.new.opened.files ≡ taken (all_free (files_from l p.next)) n = close.files ∙ ap (λ (f : Files). taken f n) c.in_ok-files.ensures.files in
+    record {
+      layout = subst (λ (k : Layout). IsLayout k) lay c.in_ok-layout.ensures.in_range;
+      region = ap (λ (f : Files). f.region) files ∙ ap (λ (k : Layout). log_region k) lay;
+      file_blocks = ap (λ (f : Files). f.file_blocks) files ∙ ap (λ (k : Layout). k.log_size) lay;
+      first = ap (λ (f : Files). f.first) files;
+      limit = ap (λ (f : Files). f.limit) files ∙ limit-is l p.next c.in_ok-layout.ensures.to ∙ ap (λ (k : Layout). 1 + k.logs * k.log_size) lay;
+      buffer = close.buffer;
+      quiet = ap (λ (s : State). s.standing) (close.replay ∙ c.in_ok-note_end.ensures) ∙ closed-standing c.runs_join.ensures c.rollbacks_are_seen.ensures p.replay p.open_tx c.in_ok-layout.ensures.alone;
+      found = search rules;
+    }

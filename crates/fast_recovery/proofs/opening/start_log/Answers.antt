@@ -2,8 +2,8 @@ use Rattle.std.proofs.Common.{sym, subst, []}
 use Rattle.ids_outside.specs.Images.{Image}
 use Rattle.log_files.specs.Log.{EndsWhole}
 use Rattle.log_files.specs.Files.{Files, IsRead, Clears}
-use Rattle.log_buffer.specs.Kept.{tail_entries}
-use Rattle.log_buffer.proofs.Logs.{log_clears}
+use Rattle.fast_recovery.specs.KeptLog.{tail_entries}
+use Rattle.fast_recovery.proofs.LogTails.{log_clears}
 use Rattle.fast_recovery.specs.Images.{log_region}
 use Rattle.fast_recovery.specs.Opening.{files_from}
 use Rattle.fast_recovery.proofs.Keeping.{is-read, same-log}
@@ -12,8 +12,8 @@ use Rattle.fast_recovery.proofs.opening.start_log.Goals as goal
 pub clear_rest-requires : goal.clear_rest-requires
 clear_rest-requires g c =
     let d = g.D.Disk in let old = c.args.disk.now in
-    subst (λ (f : Files). IsRead d.size d.image d.can_leave f old) (sym c.files_of-files.ensures)
-    (is-read d.size d.image d.can_leave d.tells c.args.layout.now c.args.next old c.requires.ranges c.requires.lies c.requires.settled
+    subst (λ (f : Files). IsRead d f old) (sym c.files_of-files.ensures)
+    (is-read d d.tells c.args.layout.now c.args.next old c.requires.ranges c.requires.lies c.requires.settled
     (λ x left. g.met.D.Disk.left_tells old (d.now old) x (g.met.D.Disk.counts_now old x left)) c.requires.held c.requires.ends)
 
 pub returns-in_err-clear_rest-clause-any_moment : goal.returns-in_err-clear_rest-clause-any_moment

@@ -103,3 +103,40 @@ returns-clause-ready g c =
           (λ k. closed_of f r at straight more er ea em (d.image mid) (d.image new) (c.in_ok-clear_some.ensures.closed tells) (closed tells) (c.clear_some-2.ensures.shown tells) k));
       stable = λ x left b from below. ap (λ i. body_at f.region b i) (only x left);
     }) c.clear_some-2.ensures.durable c.clear_some-2.ensures.closed
+
+pub returns-in_err-clear_some-clause-shown : goal.returns-in_err-clear_some-clause-shown
+returns-in_err-clear_some-clause-shown g c = λ tells.
+    let f = c.args.self.now in let ring = c.rest-rest.ensures.ring in let read = c.requires in
+    let r = c.region-region.result in let at = c.place-at.result in let straight = c.min-straight.result in let more = c.rest-rest.result - straight in
+    let er : r ≡ f.region = c.region-region.ensures.region in
+    let ea : at ≡ ring_place f.region f.next = c.place-at.ensures.place ∙ ap (λ n. ring_place f.region n) c.next.ensures.next in
+    let all : c.rest-rest.result ≡ f.first + f.region.count - f.next = omega (arith, c.rest-rest.ensures.rest) in
+    let short : straight ≡ min (f.first + f.region.count - f.next) (f.region.count - ring_place f.region f.next) =
+    c.min-straight.ensures ∙ (λ i. min (all i) ((er i).count - ea i)) in
+    let em : more ≡ f.first + f.region.count - f.next - straight = ap (λ n. n - straight) all in
+    let one : (x y : Image) → Closing r at straight x y → Loses f x y = λ x y closing.
+    let closing' = closing_of f r (ring_place f.region f.next) er at straight straight ea refl x y closing in
+    closes f ring (ring_place f.region f.next) straight x y (first_free f ring straight short) closing'
+    (c.elsewhere.ensures.closing f.region (ring_place f.region f.next) straight x y (omega (arith, short, c.place-at.ensures.within, ea)) closing') in
+    (one (g.D.Disk.image c.args.disk.now) (g.D.Disk.image c.clear_some.new.disk) (c.clear_some.ensures.shown tells)).elsewhere
+
+pub returns-clause-shown : goal.returns-clause-shown
+returns-clause-shown g c = λ tells.
+    let f = c.args.self.now in let ring = c.rest-rest.ensures.ring in let read = c.requires in
+    let r = c.region-region.result in let at = c.place-at.result in let straight = c.min-straight.result in let more = c.rest-rest.result - straight in
+    let er : r ≡ f.region = c.region-region.ensures.region in
+    let ea : at ≡ ring_place f.region f.next = c.place-at.ensures.place ∙ ap (λ n. ring_place f.region n) c.next.ensures.next in
+    let all : c.rest-rest.result ≡ f.first + f.region.count - f.next = omega (arith, c.rest-rest.ensures.rest) in
+    let short : straight ≡ min (f.first + f.region.count - f.next) (f.region.count - ring_place f.region f.next) =
+    c.min-straight.ensures ∙ (λ i. min (all i) ((er i).count - ea i)) in
+    let em : more ≡ f.first + f.region.count - f.next - straight = ap (λ n. n - straight) all in
+    let one : (x y : Image) → Closing r at straight x y → Loses f x y = λ x y closing.
+    let closing' = closing_of f r (ring_place f.region f.next) er at straight straight ea refl x y closing in
+    closes f ring (ring_place f.region f.next) straight x y (first_free f ring straight short) closing'
+    (c.elsewhere.ensures.closing f.region (ring_place f.region f.next) straight x y (omega (arith, short, c.place-at.ensures.within, ea)) closing') in
+    let two : (x y : Image) → Closing r 0 more x y → Loses f x y = λ x y closing.
+    let closing' = closing_of f r 0 er 0 more (f.first + f.region.count - f.next - straight) refl em x y closing in
+    closes f ring 0 (f.first + f.region.count - f.next - straight) x y (second_free f ring straight short) closing'
+    (c.elsewhere.ensures.closing f.region 0 (f.first + f.region.count - f.next - straight) x y (omega (arith, ring.free, ring.once, ring.order)) closing') in
+    let d = g.D.Disk in let mid = c.clear_some.new.disk in let new = c.clear_some-2.new.disk in
+    (loses_then f (d.image c.args.disk.now) (d.image mid) (d.image new) (one (d.image c.args.disk.now) (d.image mid) (c.clear_some.ensures.shown tells)) (two (d.image mid) (d.image new) (c.clear_some-2.ensures.shown tells))).elsewhere

@@ -1,8 +1,10 @@
 use Rattle.std.proofs.Common.{◌≡◌, ◌≤◌, ◌-◌, ℕ, length, take}
-use Rattle.ids_outside.specs.Stops.{Leaves}
+use Rattle.ids_outside.specs.Images.{SameBut}
+use Rattle.gate_blocks.specs.Gates.{RegionPlaces}
+use Rattle.log_files.specs.Moments.{Within}
 use Rattle.log_files.specs.Files.{IsReady, Count, Grows, Appends, KeepsRetained, taken}
 use Rattle.log_files.proofs.Steps.{News}
-use Rattle.log_files.proofs.files.LogFiles.append_blocks.Given as goal
+use Rattle.log_files.proofs.files.LogFiles.write_groups.Given as goal
 
 abbrev pub ghosts-started : goal.ghosts-started
 ghosts-started g a = record { Place = News; step = λ p. Grows p.0 p.1 }
@@ -26,11 +28,12 @@ ghosts-seen_as-B-Steps g a = record { Place = News; step = λ p. Appends p.0 p.1
 abbrev pub invariant-loop-done : goal.invariant-loop-done
 invariant-loop-done g l = record {
   within : l.done ≤ length l.bodies;
-  files : l.self ≡ taken l.fn.self l.done;
-  ready : IsReady g.D.Disk.size g.D.Disk.image g.D.Disk.can_leave l.self l.disk;
-  kept : g.D.Disk.tells → KeepsRetained l.fn.self (g.D.Disk.image l.fn.disk) (g.D.Disk.image l.disk);
-  counted : g.D.Disk.tells → Count l.fn.self.region l.fn.self.next (take l.done l.bodies) (g.D.Disk.image l.disk);
-  run : Leaves g.D.Disk.now g.D.Disk.can_leave g.D.Disk.left_at l.fn.disk l.disk (Grows l.fn.self (take l.done l.bodies));
+  files : l.files ≡ taken l.self l.done;
+  ready : IsReady g.D.Disk l.files l.disk;
+  kept : g.D.Disk.tells → KeepsRetained l.self (g.D.Disk.image l.fn.disk) (g.D.Disk.image l.disk);
+  counted : g.D.Disk.tells → Count l.self.region l.self.next (take l.done l.bodies) (g.D.Disk.image l.disk);
+  run : Within g.D.Disk l.fn.disk l.disk (Grows l.self (take l.done l.bodies));
+  shown : g.D.Disk.tells → SameBut (RegionPlaces l.self.region) (g.D.Disk.image l.fn.disk) (g.D.Disk.image l.disk);
   sizes : (j : ℕ) → g.D.Disk.size l.disk j ≡ g.D.Disk.size l.fn.disk j;
   faults : g.D.Disk.fault_count l.fn.disk ≤ g.D.Disk.fault_count l.disk;
 }
