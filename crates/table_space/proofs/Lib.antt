@@ -15,3 +15,5 @@ pub mod Counts
 pub mod Telling
 pub mod Owned
 pub mod Reserving
+pub mod Forks
+pub mod Ordered

@@ -9,6 +9,7 @@ pub mod Marks
 pub mod Noted
 pub mod Numbers
 pub mod Opened
+pub mod Ordered
 pub mod Owners
 pub mod PageMarks
 pub mod Places
@@ -17,3 +18,5 @@ pub mod Rooms
 pub mod Seen
 pub mod Slots
 pub mod Space
+pub mod Tree
+pub mod TreeFalls

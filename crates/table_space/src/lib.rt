@@ -20,6 +20,7 @@ mod slots;
 pub mod space;
 #[cfg(test)]
 mod tests;
+mod tree;
 
 pub use catalogue::catalogue_key;
 pub use space::{NoSpace, TableSpace};
