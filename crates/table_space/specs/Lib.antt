@@ -12,6 +12,7 @@ pub mod Opened
 pub mod Ordered
 pub mod Owners
 pub mod PageMarks
+pub mod Pages
 pub mod Places
 pub mod Reserves
 pub mod Rooms
