@@ -13,5 +13,7 @@ pub mod FullPages
 pub mod Counting
 pub mod Counts
 pub mod Telling
-pub mod Owned
 pub mod Reserving
+pub mod Forks
+pub mod Ordered
+pub mod OwnedPages

@@ -9,11 +9,15 @@ pub mod Marks
 pub mod Noted
 pub mod Numbers
 pub mod Opened
+pub mod Ordered
 pub mod Owners
 pub mod PageMarks
+pub mod Pages
 pub mod Places
 pub mod Reserves
 pub mod Rooms
 pub mod Seen
 pub mod Slots
 pub mod Space
+pub mod Tree
+pub mod TreeFalls

@@ -1,11 +1,5 @@
 -- The owners of pages, from page 1 on.
-use Rattle.std.specs.Int.{bit_at}
-use Rattle.std.specs.Prelude.{◌≡◌, ℕ, ◌≤◌, ◌<◌, ◌+◌, ◌-◌, slice_index, Bool, false, cond, ◌==◌, List, Option, Some, None, length, slice_index_or}
-use Rattle.std.specs.List.{count_by}
-use Rattle.std.specs.Option.{is_none}
-use Rattle.std.specs.Ordering.{nat_cmp}
-use Rattle.std.specs.BTreeMap as tree
-use Rattle.std.specs.BTreeMap.{BTreeMap}
+use Rattle.std.specs.Prelude.{◌≡◌, ℕ, ◌≤◌, ◌<◌, ◌-◌, Bool, false, ◌==◌, List, Option, Some, None, length, slice_index_or}
 
 -- the page is the table's
 abbrev pub is_own : ℕ → Option ℕ → Bool
@@ -31,29 +25,18 @@ pub record IsLeastUnowned (os : List (Option ℕ)) (page : ℕ) : Type 0 where
 abbrev pub HasNoUnowned : List (Option ℕ) → Type 0
 HasNoUnowned os = (page : ℕ) → ¬ IsUnowned os page
 
--- the marks tell which pages have no owner
-pub record AreOpen (os : List (Option ℕ)) (marks : List ℕ) : Type 0 where
-  pub room : length os ≤ length marks
-  pub open_marked : (p : ℕ) → p < length os → slice_index_or os p None ≡ None → bit_at (slice_index marks p) 0 ≡ 1
-  pub marked_open : (p : ℕ) → bit_at (slice_index marks p) 0 ≡ 1 → (p < length os) × (slice_index_or os p None ≡ None)
+-- a page is a table's
+pub record IsOwned (os : List (Option ℕ)) (table page : ℕ) : Type 0 where
+  pub first : 1 ≤ page
+  pub last : page ≤ length os
+  pub owned : owner_in os page ≡ Some table
 
--- the count of a table, if it has one
-abbrev pub count_of : BTreeMap ℕ ℕ → ℕ → Option ℕ
-count_of counts t = tree.get nat_cmp counts t
+-- the least page behind one that a table owns
+pub record IsNextOwned (os : List (Option ℕ)) (table from page : ℕ) : Type 0 where
+  pub one : IsOwned os table page
+  pub behind : from < page
+  pub least : (p : ℕ) → IsOwned os table p → from < p → page ≤ p
 
--- each table that has a count owns so many pages
-abbrev pub AreCounted : List (Option ℕ) → BTreeMap ℕ ℕ → Type 0
-AreCounted os counts = (t n : ℕ) → count_of counts t ≡ Some n → n ≡ count_by (is_own t) os
-
--- the page is that of a table that has no count
-abbrev pub is_uncounted : BTreeMap ℕ ℕ → Option ℕ → Bool
-is_uncounted counts None = false
-is_uncounted counts (Some t) = is_none (count_of counts t)
-
--- all counts are below a bound
-abbrev pub AreBelow : ℕ → BTreeMap ℕ ℕ → Type 0
-AreBelow bound counts = (t n : ℕ) → count_of counts t ≡ Some n → n < bound
-
--- a count where a page was lost or not, and one was gained or not
-abbrev pub moved : Bool → Bool → ℕ → ℕ
-moved lost gained n = n + cond gained 1 0 - cond lost 1 0
+-- there is none
+abbrev pub HasNoNextOwned : List (Option ℕ) → ℕ → ℕ → Type 0
+HasNoNextOwned os table from = (page : ℕ) → IsOwned os table page → page ≤ from

@@ -8,6 +8,7 @@ use Rattle.table_space.specs.declared.space.TableSpace.{TableSpace}
 use Rattle.table_space.specs.Catalogue.{catalogue_key_of}
 use Rattle.table_space.specs.Directory.{entries_at}
 use Rattle.table_space.specs.Noted.{row_of}
+use Rattle.table_space.specs.Owners.{IsOwned, IsNextOwned, HasNoNextOwned}
 use Rattle.table_space.specs.Seen.{Entries}
 
 -- the entries of each table and key
@@ -23,6 +24,18 @@ owner_of s page = slice_index_or (owners_of s) (page - 1) None
 
 abbrev pub pages_of : TableSpace → ℕ
 pages_of s = length (owners_of s)
+
+-- a page is a table's
+abbrev pub Owns : TableSpace → ℕ → ℕ → Type 0
+Owns s table page = IsOwned (owners_of s) table page
+
+-- the least page behind one that a table owns
+abbrev pub IsNextPage : TableSpace → ℕ → ℕ → ℕ → Type 0
+IsNextPage s table from page = IsNextOwned (owners_of s) table from page
+
+-- there is none
+abbrev pub HasNoNextPage : TableSpace → ℕ → ℕ → Type 0
+HasNoNextPage s table from = HasNoNextOwned (owners_of s) table from
 
 -- the name and the shape of a table, where it was entered
 abbrev pub table_at : TableSpace → ℕ → Option Table

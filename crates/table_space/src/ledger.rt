@@ -14,7 +14,7 @@ ghost use Rattle.table_space.specs.Rooms.{AreFull, IsNextPage, AreRooms, known_t
 use crate::catalogue::CATALOGUE;
 use crate::directory::Directory;
 use crate::front::Front;
-use crate::owners::Owners;
+use crate::pages::Pages;
 use crate::reserves::Reserves;
 use crate::rooms::Rooms;
 use ids_base::lock::Key;
@@ -29,7 +29,7 @@ use std::marker::Model;
 #[derive(Drop)]
 pub struct Ledger {
     directory: Directory,
-    owners: Owners,
+    owners: Pages,
     fronts: Vec<Front>,
     rooms: Rooms,
     reserves: Reserves,
@@ -66,7 +66,7 @@ impl Ledger {
         ensures entries { IfOk result (λ ledger. (t : ℕ) (k : TheKey) → entries_at ledger.directory t k ≡ []) }
     {
         let front = Front { taken: 0, used: 0 };
-        let owners = Owners::new(alloc, pages)?;
+        let owners = Pages::new(alloc, pages)?;
         let mut rooms = Rooms::new(alloc, pages);
         rooms.enter_table(alloc, CATALOGUE, &owners)?;
         let reserves = Reserves::new(alloc, pages)?;
@@ -88,19 +88,18 @@ impl Ledger {
     }
 
     /// The owners of pages.
-    pub(crate) fn owners(&self) -> &Owners
+    pub(crate) fn owners(&self) -> &Pages
         ensures { result.now ≡ self.now.owners }
     {
         &self.owners
     }
 
-    /// Makes room for what `note` keeps of a table, and for the count of its pages, unless there is. Answers `Memory` only for want of memory,
-    /// and all is as it was then. In the time of the `enter_table` of owners and rooms.
+    /// Makes room for what `note` keeps of a table, unless there is. Answers `Memory` only for want of memory, and all is as it was then. In the
+    /// time of `Rooms::enter_table`.
     pub(crate) fn enter_table(&mut self, table: TableNo) -> Result<(), Memory>
         ensures directory { self.new.directory ≡ self.old.directory }
         ensures owners { self.new.owners ≡ self.old.owners }
     {
-        self.owners.enter_table(table)?;
         self.rooms.enter_table(self.alloc, table, &self.owners)
     }
 
@@ -258,7 +257,7 @@ fn open_pages(
     rooms: &mut Rooms,
     reserves: &Reserves,
     directory: &Directory,
-    owners: &Owners,
+    owners: &Pages,
     tx: TxNo,
 )
     requires front_pages { length fronts.old ≡ length owners.now }
@@ -284,7 +283,7 @@ fn open_page(
     fronts: &mut [Front],
     rooms: &mut Rooms,
     directory: &Directory,
-    owners: &Owners,
+    owners: &Pages,
     page: u32,
     tx: TxNo,
 )
@@ -315,7 +314,7 @@ fn open_page(
 }
 
 // No slot of a page is known to be taken as one of its table.
-fn mark_open(rooms: &mut Rooms, owners: &Owners, page: u32)
+fn mark_open(rooms: &mut Rooms, owners: &Pages, page: u32)
     requires first { 1 ≤ page }
     requires last { page ≤ length owners.now }
     requires room_pages { rooms.old.pages ≡ length owners.now }
@@ -333,7 +332,7 @@ fn renew_pages(
     reserves: &mut Reserves,
     directory: &Directory,
     fronts: &[Front],
-    owners: &Owners,
+    owners: &Pages,
     tx: TxNo,
 )
     requires front_pages { length fronts.now ≡ length owners.now }
@@ -355,7 +354,7 @@ fn renew(
     reserves: &mut Reserves,
     directory: &Directory,
     fronts: &[Front],
-    owners: &Owners,
+    owners: &Pages,
     page: u32,
 )
     requires first { 1 ≤ page }

@@ -1,6 +1,6 @@
 //! The names and shapes of tables, the directory of keys, and which slots are free or reserved.
 //!
-//! Knows no disk and no bytes of pages. Read `entry`, `entries`, `catalogue`, `marks`, `slot`, `slots`, `directory`, `owners`, `rooms`, `reserves` and `ledger`; then `space` and `places`.
+//! Knows no disk and no bytes of pages. Read `entry`, `entries`, `catalogue`, `marks`, `slot`, `slots`, `directory`, `tree`, `pages`, `rooms`, `reserves` and `ledger`; then `space` and `places`.
 #![tactic(auto)]
 
 pub mod catalogue;
@@ -11,7 +11,7 @@ mod front;
 mod ledger;
 mod lengths;
 mod marks;
-pub mod owners;
+mod pages;
 mod places;
 mod reserves;
 mod rooms;
@@ -20,6 +20,7 @@ mod slots;
 pub mod space;
 #[cfg(test)]
 mod tests;
+mod tree;
 
 pub use catalogue::catalogue_key;
 pub use space::{NoSpace, TableSpace};

@@ -76,12 +76,12 @@ impl TableSpace {
         }
     }
 
-    // The slots and the pages that a table owns. In the time of the owners' `count`.
+    // The slots and the pages that a table owns. Logarithmic in the pages.
     fn no_space(&self, table: TableNo, slots: u8) -> NoSpace
         ensures pages { result.pages ≡ count_by (is_own table) (owners_of self.now) }
         ensures rows { result.rows ≡ count_by (is_own table) (owners_of self.now) * slots }
     {
-        let pages = self.ledger.owners().count(table);
+        let pages = u64::from(self.page_count(table));
         NoSpace {
             rows: pages * u64::from(slots),
             pages,

@@ -6,7 +6,7 @@ ghost use Rattle.table_space.specs.PageMarks.{AreMarks, AreOnPages, marks_in, na
 ghost use Rattle.table_space.specs.Owners.{owner_in};
 
 use crate::marks::Marks;
-use crate::owners::Owners;
+use crate::pages::Pages;
 use ids_base::memory::Memory;
 use ids_base::numbers::TableNo;
 use std::alloc::Global;
@@ -51,7 +51,7 @@ impl Rooms {
         &mut self,
         alloc: Global,
         table: TableNo,
-        owners: &Owners,
+        owners: &Pages,
     ) -> Result<(), Memory>
         requires { self.old.pages ≡ length owners.now }
         ensures pages { self.new.pages ≡ self.old.pages }
@@ -65,7 +65,7 @@ impl Rooms {
     }
 
     // Makes the marks of a group, unless they are there.
-    fn enter_group(&mut self, alloc: Global, group: u32, owners: &Owners) -> Result<(), Memory>
+    fn enter_group(&mut self, alloc: Global, group: u32, owners: &Pages) -> Result<(), Memory>
         requires { self.old.pages ≡ length owners.now }
         ensures pages { self.new.pages ≡ self.old.pages }
         ensures less { AreNoMore owners.now self.old self.new }
@@ -117,12 +117,12 @@ impl Rooms {
 }
 
 // The marks of a group: those of all pages that its tables own.
-fn marks_for(alloc: Global, group: u32, owners: &Owners) -> Result<Marks, Memory>
+fn marks_for(alloc: Global, group: u32, owners: &Pages) -> Result<Marks, Memory>
     ensures pages { IfOk result (AreOnPages (length owners.now)) }
     ensures owned { IfOk result (λ marks. (p t : ℕ) → 1 ≤ p → p ≤ length owners.now → owner_in owners.now p ≡ Some t → t / 64 ≡ group → bit_at (slice_index marks (p - 1)) (t % 64) ≡ 1) }
 {
-    let mut marks = Marks::new(alloc, owners.pages() as usize)?;
-    for page in 1..owners.pages() + 1 {
+    let mut marks = Marks::new(alloc, owners.len() as usize)?;
+    for page in 1..owners.len() + 1 {
         mark_owned(&mut marks, group, page, owners.get(page));
     }
     Ok(marks)

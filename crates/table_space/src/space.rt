@@ -5,7 +5,9 @@ ghost use Rattle.table_space.specs.Catalogue.{catalogue_key_of};
 ghost use Rattle.table_space.specs.Noted.{row_of, made, noted, has_entry_for, is_alone};
 ghost use Rattle.table_space.specs.Least.{is_below, lesser};
 ghost use Rattle.table_space.specs.Seen.{Changes, IsSame, Ends};
-ghost use Rattle.table_space.specs.Space.{entries_of, owners_of, pages_of, table_at, shape_in, is_there, IsUnused, Names, IsNamed, IsLeastNamed, IsSameTables};
+ghost use Rattle.std.specs.List.{count_by};
+ghost use Rattle.table_space.specs.Owners.{is_own};
+ghost use Rattle.table_space.specs.Space.{entries_of, owners_of, pages_of, HasNoNextPage, IsNextPage, table_at, shape_in, is_there, IsUnused, Names, IsNamed, IsLeastNamed, IsSameTables};
 
 use crate::catalogue::{CATALOGUE, catalogue_key};
 use crate::ledger::Ledger;
@@ -61,7 +63,23 @@ impl TableSpace {
         ensures pages { result ≡ pages_of self.now }
         ensures few { result < 2 ^ 24 }
     {
-        self.ledger.owners().pages()
+        self.ledger.owners().len()
+    }
+
+    /// How many data pages a table owns. Logarithmic in the pages.
+    pub fn page_count(&self, table: TableNo) -> u32
+        ensures counted { result ≡ count_by (is_own table) (owners_of self.now) }
+        ensures few { result < 2 ^ 24 }
+    {
+        self.ledger.owners().count(table)
+    }
+
+    /// The least page behind one that the table owns, from page 0 on the first; `None` exactly where it owns none behind it. Logarithmic in the
+    /// pages.
+    pub fn next_page(&self, table: TableNo, page: u32) -> Option<u32>
+        ensures { MatchOption result (HasNoNextPage self.now table page) (IsNextPage self.now table page) }
+    {
+        self.ledger.owners().next(table, page)
     }
 
     /// The row id of the key's filled entry; `None` exactly where it has none. Logarithmic in the keys, and linear in the key's entries.
@@ -133,8 +151,7 @@ impl TableSpace {
 
     /// Keeps the name and the shape of a table, and makes an entry for its number in the catalogue, empty and without a row id.
     /// Answers `Memory` only for want of memory, and all is as it was then. Logarithmic in the keys and the tables, amortised, and a copy of name
-    /// and shape; where the table is new, and a page is owned by a table that was not entered, or the table is the first of 64 whose numbers
-    /// divided by 64 are the same, also in proportion to the pages.
+    /// and shape; where the table is the first of 64 whose numbers divided by 64 are the same, also in proportion to the pages.
     pub fn enter_table(
         &mut self,
         table: TableNo,
