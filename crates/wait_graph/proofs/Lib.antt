@@ -1,5 +1,7 @@
+pub mod Calm
 pub mod Copies
 pub mod Edges
+pub mod Kept
 pub mod Loads
 pub mod Named
 pub mod Places
@@ -7,3 +9,5 @@ pub mod Requests
 pub mod Scans
 pub mod Standing
 pub mod Trees
+pub mod Turning
+pub mod Waiting

@@ -1,4 +1,5 @@
 pub mod Cycles
+pub mod Laws
 pub mod Queued
 pub mod Reached
 pub mod Search

@@ -3,6 +3,7 @@
 
 mod asked;
 pub mod cycle;
+pub mod laws;
 mod reached;
 mod search;
 #[cfg(test)]
