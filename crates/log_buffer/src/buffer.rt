@@ -14,7 +14,7 @@ use ids_base::memory::Memory;
 use ids_base::position::LogPos;
 use ids_outside::{Disk, DiskFault};
 use log_files::LogFiles;
-use log_records::block_body::{BlockBody, put};
+use log_records::block_body::{BlockBody, RECORD_BYTES, put};
 use log_records::view::RecordView;
 use std::alloc::Global;
 use std::marker::Model;
