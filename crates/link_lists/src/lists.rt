@@ -10,7 +10,7 @@ use std::marker::Model;
 /// A fixed number of doubly linked lists of ids, all over one slab. Contracts see the list of lists of ids, and for each id
 /// the list that it is in. An id is in at most one list, and stands there once.
 ///
-/// Only `new` and `add_id` take memory. Each call but `new` takes constant time.
+/// Only `new` and `add_id` take memory. Each call but these two takes constant time.
 #[derive(Drop)]
 pub struct Lists {
     web: Web,
@@ -44,7 +44,8 @@ impl Lists {
         })
     }
 
-    /// One id more, in no list: the number of ids before. `Memory` where there is none, and all is then as it was.
+    /// One id more, in no list: the number of ids before. `Memory` where there is none, and all is then as it was. It takes constant
+    /// time, but where it takes memory: then time in proportion to the ids and lists.
     pub fn add_id(&mut self) -> Result<u32, Memory>
         requires { id_count self.old < 2147483648 }
         ensures id { IfOk result (λ id. id ≡ id_count self.old) }

@@ -3,6 +3,7 @@
 //! A place is the number of an id, or for the head of list l the number `HEAD + l`.
 ghost use Rattle.std.specs.Prelude.{◌≡◌, ◌≢◌, ℕ, ◌+◌, ◌<◌, ◌≤◌, true, Some, None, OnOk, OnErr, IfOk};
 ghost use Rattle.link_lists.specs.Places.{slot_of, is_place, head_place};
+ghost use Rattle.slab.specs.Slab.{get, ContainsKey};
 ghost use Rattle.link_lists.specs.Nodes.{EachHasNode};
 
 use ids_base::memory::Memory;
@@ -29,6 +30,32 @@ pub struct Web {
     ghost few_ids: { ids ≤ 2147483648 },
 }
 
+// Puts nodes in until the slab has no room left. Each key below its room has one then, in whatever order the slab gave them.
+fn fill(nodes: &mut Slab<Node>)
+    ensures each { EachHasNode nodes.new nodes.old.capacity }
+    ensures kept { (key : ℕ) → ContainsKey nodes.old key → get nodes.new key ≡ get nodes.old key }
+{
+    while nodes.len() < nodes.capacity() {
+        nodes.insert_reserved(Node {
+            prev: 0,
+            next: 0,
+            home: None,
+        });
+    }
+}
+
+// A node for each key below `count`.
+fn provide(nodes: &mut Slab<Node>, count: usize) -> Result<(), Memory>
+    ensures each { OnOk result (EachHasNode nodes.new count) }
+    ensures kept { (key : ℕ) → ContainsKey nodes.old key → get nodes.new key ≡ get nodes.old key }
+{
+    if nodes.capacity() < count {
+        nodes.reserve(count - nodes.len())?;
+    }
+    fill(nodes);
+    Ok(())
+}
+
 // The key of a place's node.
 fn slot(lists: u32, place: u32) -> usize
     ensures { result ≡ slot_of lists place }
@@ -51,19 +78,14 @@ impl Web {
         ensures prev { IfOk result (λ w. (l : ℕ) → l < lists → prev_of w (head_place l) ≡ head_place l) }
     {
         let mut nodes = Slab::new(alloc);
+        provide(&mut nodes, lists as usize)?;
         for list in 0..lists {
             let place = HEAD + list;
-            let head = Node {
+            nodes[list as usize] = Node {
                 prev: place,
                 next: place,
                 home: None,
             };
-            if nodes.vacant_key() != list as usize {
-                return Err(Memory);
-            }
-            if nodes.insert(head).is_err() {
-                return Err(Memory);
-            }
         }
         Ok(Web {
             nodes,
@@ -84,18 +106,13 @@ impl Web {
         ensures home { SameHome self.old self.new }
     {
         let id = self.ids;
-        // A slab from which nothing is removed gives its keys in order.
-        if self.nodes.vacant_key() != self.lists as usize + id as usize {
-            return Err(Memory);
-        }
-        let node = Node {
+        let key = self.lists as usize + id as usize;
+        provide(&mut self.nodes, key + 1)?;
+        self.nodes[key] = Node {
             prev: 0,
             next: 0,
             home: None,
         };
-        if self.nodes.insert(node).is_err() {
-            return Err(Memory);
-        }
         self.ids = id + 1;
         Ok(id)
     }
