@@ -5,7 +5,6 @@ pub mod Indexing
 pub mod Ending
 pub mod EndingUnder
 pub mod Noted
-pub mod Named
 pub mod Fronts
 pub mod Alone
 pub mod MarkTrees
@@ -17,3 +16,6 @@ pub mod Reserving
 pub mod Forks
 pub mod Ordered
 pub mod OwnedPages
+pub mod Tallies
+pub mod ShownNames
+pub mod Standing

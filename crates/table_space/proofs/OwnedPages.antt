@@ -1,58 +1,19 @@
 -- Sets of pages' places, and the owners of the pages.
-use Rattle.std.proofs.Common.{◌≡◌, ◌≢◌, ℕ, zero, suc, ◌+◌, ◌-◌, ◌<◌, ◌≤◌, ◌^◌, ◌==◌, ◌&&◌, ◌||◌, nat_lt, Bool, true, false, cond, not, refl, ap, sym, ◌∙◌, subst, List, [], ◌∷◌, ◌++◌, length, set, Option, Some, None, arith, inl, inr, slice_index_or, replicate, get_or-set_same, get_or-set_other}
+use Rattle.std.proofs.Common.{◌≡◌, ◌≢◌, ℕ, zero, suc, ◌+◌, ◌-◌, ◌<◌, ◌≤◌, ◌^◌, ◌==◌, ◌&&◌, ◌||◌, nat_lt, Bool, true, false, cond, not, refl, ap, sym, ◌∙◌, subst, List, [], ◌∷◌, length, set, Option, Some, None, arith, inl, inr, slice_index_or, replicate, get_or-set_same, get_or-set_other}
 use Rattle.std.proofs.lemmas.List.{length-set, length-replicate, get_or-replicate}
 use Rattle.std.specs.List.{count_by}
 use Rattle.std.specs.Option.{MatchOption}
 use Rattle.std.specs.Ordering.{ordering_then, is_lt}
-use Rattle.std.specs.declared.cmp.Ordering.{Ordering}
 use Rattle.std.specs.declared.cmp.Ordering.TheVariants.{Less, Equal, Greater}
 use Rattle.std.proofs.lemmas.Bool.{false≢true, cases_eq}
 use Rattle.std.proofs.lemmas.Bool.Decides.{nat_tests}
-use Rattle.std.proofs.lemmas.List.Sums.{sum_by-cons, sum_by-append}
+use Rattle.std.proofs.lemmas.List.Sums.{sum_by-cons}
 use Rattle.table_space.specs.declared.pages.Place.{Place}
-use Rattle.table_space.specs.Ordered.{less, Each, AreBelow, IsOrdered, IsPut, IsTaken, HasNone, IsFirstFrom}
+use Rattle.table_space.specs.Ordered.{less, Each, AreBelow, IsOrdered, IsTaken, HasNone, IsFirstFrom}
 use Rattle.table_space.specs.Owners.{is_own, owner_in, IsOwned, IsNextOwned, HasNoNextOwned}
 use Rattle.table_space.specs.Pages.{place, place_cmp, one_owned, count_owned, AreOwned, ArePages}
+use Rattle.table_space.proofs.Tallies.{count-middle, count-taken, count-none}
 use Rattle.table_space.proofs.Ordered.{each-append, each-weaker, ordered-from}
-
-module _ {K : Type 0} where
-  -- a count by parts
-  pub count-cons : (p : K → Bool) (x : K) (xs : List K) → count_by p (x ∷ xs) ≡ cond (p x) 1 0 + count_by p xs
-  count-cons p x xs = sum_by-cons (λ (y : K). cond (p y) 1 0) x xs
-
-  pub count-middle : (p : K → Bool) (a b : List K) (x : K) → count_by p (a ++ x ∷ b) ≡ count_by p (a ++ b) + cond (p x) 1 0
-  count-middle p a b x =
-      let f : K → ℕ = λ y. cond (p y) 1 0 in
-      omega (arith, sum_by-append f a (x ∷ b), sum_by-append f a b, count-cons p x b)
-
-  -- one item more, and one less
-  pub count-put : (p : K → Bool) (cmp : K → K → Ordering) (was now : List K) (x : K) → IsPut cmp was now x → count_by p now ≡ count_by p was + cond (p x) 1 0
-  count-put p cmp was now x h = omega (arith, ap (count_by p) h.old, ap (count_by p) h.new, count-middle p h.before h.behind x)
-
-  pub count-taken : (p : K → Bool) (cmp : K → K → Ordering) (was now : List K) (one x : K) → IsTaken cmp was now one x → count_by p was ≡ count_by p now + cond (p x) 1 0
-  count-taken p cmp was now one x h = omega (arith, ap (count_by p) h.old, ap (count_by p) h.new, count-middle p h.before h.behind x)
-
-  -- none passes
-  pub count-none : (p : K → Bool) (xs : List K) → Each (λ x. p x ≡ false) xs → count_by p xs ≡ 0
-  count-none p [] a = refl
-  count-none p (x ∷ xs) a = count-cons p x xs ∙ rw a.0 (omega (arith, count-none p xs a.1))
-
-  -- all do
-  pub count-all : (xs : List K) → count_by (λ (x : K). true) xs ≡ length xs
-  count-all [] = refl
-  count-all (x ∷ xs) = omega (arith, count-cons (λ (y : K). true) x xs, count-all xs)
-
-  -- what does not fail passes
-  pub passes : (p : K → Bool) (xs : List K) → 0 < count_by p xs → ((x : K) → p x ≡ true → ⊥) → ⊥
-  passes p xs some fails = omega (arith, count-none p xs (all xs))
-    where
-      at : (b : Bool) → (b ≡ true → ⊥) → b ≡ false
-      at true f = absurd (f refl)
-      at false f = refl
-
-      all : (ys : List K) → Each (λ x. p x ≡ false) ys
-      all [] = tt
-      all (y ∷ ys) = (at (p y) (fails y), all ys)
 
 -- the order of places by tests
 tests-less : (a b c d : Bool) → is_lt (ordering_then (cond a Less (cond b Equal Greater)) (cond c Less (cond d Equal Greater))) ≡ (a || (b && c))

@@ -1,10 +1,10 @@
 pub mod Catalogue
+pub mod Counted
 pub mod Directory
 pub mod Entries
 pub mod Fronts
 pub mod Indexed
 pub mod Kept
-pub mod Least
 pub mod Marks
 pub mod Noted
 pub mod Numbers
@@ -19,5 +19,7 @@ pub mod Rooms
 pub mod Seen
 pub mod Slots
 pub mod Space
+pub mod Tables
+pub mod There
 pub mod Tree
 pub mod TreeFalls

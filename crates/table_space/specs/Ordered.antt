@@ -1,6 +1,7 @@
 -- Lists in order, where items may stand there more than once.
 use Rattle.std.specs.Prelude.{◌≡◌, Bool, true, false, List, [], ◌∷◌, ◌++◌}
 use Rattle.std.specs.Ordering.{is_lt}
+use Rattle.std.specs.Coded.{×_prop, Unit-prop, Coded-set, coded_bool}
 use Rattle.std.specs.declared.cmp.Ordering.{Ordering}
 
 module _ {K : Type 0} where
@@ -54,3 +55,12 @@ module _ {K : Type 0} where
     pub is : xs ≡ before ++ item ∷ behind
     pub low : AreBelow cmp bound before
     pub high : less cmp item bound ≡ false
+
+  -- such a fact has one proof
+  each-prop : (P : K → Type 0) (xs : List K) → ((x : K) → IsProp (P x)) → IsProp (Each P xs)
+  each-prop P [] one = Unit-prop
+  each-prop P (x ∷ xs) one = ×_prop (one x) (each-prop P xs one)
+
+  pub ordered-prop : (cmp : K → K → Ordering) (xs : List K) → IsProp (IsOrdered cmp xs)
+  ordered-prop cmp [] = Unit-prop
+  ordered-prop cmp (x ∷ xs) = ×_prop (each-prop _ xs (λ y. Coded-set coded_bool (less cmp y x) false)) (ordered-prop cmp xs)

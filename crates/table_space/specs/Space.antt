@@ -10,6 +10,7 @@ use Rattle.table_space.specs.Directory.{entries_at}
 use Rattle.table_space.specs.Noted.{row_of}
 use Rattle.table_space.specs.Owners.{IsOwned, IsNextOwned, HasNoNextOwned}
 use Rattle.table_space.specs.Seen.{Entries}
+use Rattle.table_space.specs.Tables.{table_in}
 
 -- the entries of each table and key
 abbrev pub entries_of : TableSpace → Entries
@@ -39,7 +40,7 @@ HasNoNextPage s table from = HasNoNextOwned (owners_of s) table from
 
 -- the name and the shape of a table, where it was entered
 abbrev pub table_at : TableSpace → ℕ → Option Table
-table_at s t = index.get nat_eq s.tables t
+table_at s t = table_in (index.get nat_eq s.tables.entered t)
 
 -- the bytes of a row of a table: 359 of the catalogue, else as its shape says
 abbrev pub length_in : Option Table → ℕ

@@ -1,6 +1,6 @@
 //! The names and shapes of tables, the directory of keys, and which slots are free or reserved.
 //!
-//! Knows no disk and no bytes of pages. Read `entry`, `entries`, `catalogue`, `marks`, `slot`, `slots`, `directory`, `tree`, `pages`, `rooms`, `reserves` and `ledger`; then `space` and `places`.
+//! Knows no disk and no bytes of pages. Read `entry`, `entries`, `catalogue`, `marks`, `slot`, `slots`, `directory`, `tree`, `pages`, `rooms`, `reserves`, `ledger` and `tables`; then `space` and `places`.
 #![tactic(auto)]
 
 pub mod catalogue;
@@ -18,6 +18,7 @@ mod rooms;
 mod slot;
 mod slots;
 pub mod space;
+mod tables;
 #[cfg(test)]
 mod tests;
 mod tree;

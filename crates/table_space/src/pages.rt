@@ -143,7 +143,6 @@ fn nodes(alloc: Global, pages: u32) -> Result<Store<Place>, Memory>
 // Takes out the place of a page with this owner, if it has one.
 fn leave(owned: &mut Store<Place>, page: u32, owner: Option<TableNo>)
     requires ordered { IsOrdered place_cmp owned.old.items }
-    requires few { length owned.old.items + length owned.old.spare < 2 ^ 32 }
     requires there { (test : Place → Bool) → one_owned test page owner ≤ count_by test owned.old.items }
     ensures ordered { IsOrdered place_cmp owned.new.items }
     ensures counted { (test : Place → Bool) → count_by test owned.new.items + one_owned test page owner ≡ count_by test owned.old.items }

@@ -1,23 +1,24 @@
 //! The tables, their keys, and their places.
-ghost use Rattle.std.specs.Prelude.{◌≡◌, ◌≤◌, ◌<◌, ◌+◌, ◌-◌, ◌^◌, ◌∷◌, ◌++◌, [], ◌↔◌, ◌&&◌, ℕ, true, option_copied, IsTrue, IfOk, OnOk, OnErr, MatchOption, slice_set, None, Some, if◌then◌else◌};
+ghost use Rattle.std.specs.Prelude.{◌≡◌, ◌≤◌, ◌<◌, ◌+◌, ◌-◌, ◌^◌, ◌∷◌, ◌++◌, [], ◌↔◌, ◌&&◌, ℕ, true, option_copied, IsTrue, IfOk, OnOk, OnErr, MatchOption, slice_set, None, Some, if◌then◌else◌, nat_eq, is_some};
 ghost use Rattle.ids_base.specs.RowIds.{row_number};
 ghost use Rattle.table_space.specs.Catalogue.{catalogue_key_of};
 ghost use Rattle.table_space.specs.Noted.{row_of, made, noted, has_entry_for, is_alone};
-ghost use Rattle.table_space.specs.Least.{is_below, lesser};
+ghost use Rattle.indexmap.specs.IndexMap.{get};
 ghost use Rattle.table_space.specs.Seen.{Changes, IsSame, Ends};
+ghost use Rattle.table_space.specs.Tables.{table_in, is_shown};
+ghost use Rattle.table_space.specs.There.{AreThere, is_there_in, is_row_of};
 ghost use Rattle.std.specs.List.{count_by};
 ghost use Rattle.table_space.specs.Owners.{is_own};
-ghost use Rattle.table_space.specs.Space.{entries_of, owners_of, pages_of, HasNoNextPage, IsNextPage, table_at, shape_in, is_there, IsUnused, Names, IsNamed, IsLeastNamed, IsSameTables};
 
-use crate::catalogue::{CATALOGUE, catalogue_key};
+use crate::catalogue::{CATALOGUE, catalogue_key, table_of};
 use crate::ledger::Ledger;
+use crate::tables::Tables;
 use ids_base::lock::Key;
 use ids_base::memory::Memory;
 use ids_base::name::Name;
 use ids_base::numbers::{TableNo, TxNo};
 use ids_base::row_id::RowId;
 use ids_base::shape::Shape;
-use indexmap::IndexMap;
 use std::alloc::Global;
 use thiserror::Error;
 
@@ -40,11 +41,14 @@ pub struct Table {
 #[derive(Drop)]
 pub struct TableSpace {
     pub(crate) ledger: Ledger,
-    tables: IndexMap<TableNo, Table>,
+    tables: Tables,
     alloc: Global,
+    ghost there: { AreThere ledger.directory (λ t. get nat_eq tables.entered t) },
 }
 
 impl TableSpace {
+    ghost use Rattle.table_space.specs.Space.{entries_of, owners_of, pages_of, HasNoNextPage, IsNextPage, table_at, shape_in, name_in, IsUnused, Names, IsNamed, IsLeastNamed, IsSameTables};
+
     /// Data pages from 1 to `pages`, none with an owner, and no table but the catalogue, table 1. Answers `Memory` only for want of
     /// memory, which it takes in proportion to the pages.
     pub fn new(alloc: Global, pages: u32) -> Result<TableSpace, Memory>
@@ -53,7 +57,7 @@ impl TableSpace {
     {
         Ok(TableSpace {
             ledger: Ledger::new(alloc, pages)?,
-            tables: IndexMap::new(alloc),
+            tables: Tables::new(alloc),
             alloc,
         })
     }
@@ -92,47 +96,29 @@ impl TableSpace {
         }
     }
 
-    /// The table of this name that is there, the least number where there are several; `None` exactly where none is there. Linear in the
-    /// tables, and logarithmic in the keys for each of that name.
+    /// The table of this name that is there, the least number where there are several; `None` exactly where none is there. Logarithmic in the
+    /// tables.
     pub fn table_named(&self, name: &Name) -> Option<TableNo>
         ensures { MatchOption result ((t : ℕ) → ¬ IsNamed self.now name.now t) (IsLeastNamed self.now name.now) }
     {
-        let mut least = None;
-        for (number, table) in self.tables.iter() {
-            least = self.lesser(*number, &table.name, name, least);
-        }
-        least
+        self.tables.named(name)
     }
 
-    // The table where it has this name, is there, and its number is less than another, if there is one; else that one.
-    fn lesser(
-        &self,
-        number: TableNo,
-        named: &Name,
-        name: &Name,
-        least: Option<TableNo>,
-    ) -> Option<TableNo>
-        ensures { result ≡ lesser (is_there self.now) name.now least number named.now }
+    /// The name that a table was entered with, if it was. Constant time.
+    pub fn name_of(&self, table: TableNo) -> Option<&Name>
+        ensures { option_copied result ≡ name_in (table_at self.now table) }
     {
-        if *named == *name && is_below(number, least) && self.is_there(number) {
-            Some(number)
-        } else {
-            least
+        match self.tables.get(table) {
+            None => None,
+            Some(table) => Some(&table.name),
         }
-    }
-
-    // Whether a table's row in the catalogue is filled.
-    fn is_there(&self, table: TableNo) -> bool
-        ensures { result ≡ is_there self.now table }
-    {
-        self.find(CATALOGUE, &catalogue_key(table)).is_some()
     }
 
     /// The shape that a table was entered with, if it was. Constant time.
     pub fn shape_of(&self, table: TableNo) -> Option<&Shape>
         ensures { option_copied result ≡ shape_in (table_at self.now table) }
     {
-        match self.tables.get(&table) {
+        match self.tables.get(table) {
             None => None,
             Some(table) => Some(&table.shape),
         }
@@ -169,10 +155,11 @@ impl TableSpace {
             name: name.copy(),
             shape: shape.copy(self.alloc)?,
         };
-        self.tables.reserve(1)?;
+        let node = self.tables.reserve(self.alloc)?;
         self.ledger.enter_table(table)?;
         self.ledger.enter(CATALOGUE, &catalogue_key(table), tx)?;
-        self.tables.insert(table, kept)?;
+        let there = is_there(&self.ledger, table);
+        self.tables.enter(table, kept, node, there);
         Ok(())
     }
 
@@ -203,6 +190,7 @@ impl TableSpace {
     {
         let slots = self.slots_known(table);
         self.ledger.note(table, key, row, filled, tx, slots);
+        note_name(&mut self.tables, table, key, filled);
     }
 
     /// Gives a page to a table; no entry changes. Logarithmic in the pages and the tables, and linear in the slots of the page where some are
@@ -229,12 +217,28 @@ impl TableSpace {
     }
 }
 
-// Whether a number is less than another, or there is no other.
-fn is_below(number: TableNo, least: Option<TableNo>) -> bool
-    ensures { result ≡ is_below number least }
+// Whether a table's row in the catalogue is filled. As `find`.
+fn is_there(ledger: &Ledger, table: TableNo) -> bool
+    ensures { result ≡ is_there_in ledger.now.directory table }
 {
-    match least {
-        None => true,
-        Some(least) => number < least,
+    ledger
+        .directory()
+        .row_of(CATALOGUE, &catalogue_key(table))
+        .is_some()
+}
+
+// Shows the name of the table whose row in the catalogue has this key, where it is filled, and shows it no longer where it is not; nothing
+// where that is no such key. Logarithmic in the tables.
+fn note_name(tables: &mut Tables, table: TableNo, key: &Key, filled: bool)
+    ensures kept { (t : ℕ) → table_in (get nat_eq tables.new.entered t) ≡ table_in (get nat_eq tables.old.entered t) }
+    ensures shown { (t : ℕ) → t < 2 ^ 32 → is_shown (get nat_eq tables.new.entered t) ≡ (if is_row_of table key.now t then is_some (table_in (get nat_eq tables.old.entered t)) && filled else is_shown (get nat_eq tables.old.entered t)) }
+{
+    if table != CATALOGUE {
+        return;
+    }
+    match table_of(key) {
+        None => {}
+        Some(number) if filled => tables.show(number),
+        Some(number) => tables.hide(number),
     }
 }

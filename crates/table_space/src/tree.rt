@@ -2,6 +2,7 @@
 ghost use Rattle.std.specs.Prelude.{◌≡◌, ◌<◌, ◌+◌, ◌^◌, [], ◌∷◌, ◌++◌, length, MatchOption, OnOk, OnErr, true};
 ghost use Rattle.std.specs.List.{count_by};
 ghost use Rattle.std.specs.Ordering.{is_lt};
+ghost use Rattle.table_space.specs.Counted.{up_to_max};
 ghost use Rattle.table_space.specs.Ordered.{less, IsOrdered, AreFrom, AreBelow, IsPut, IsTaken, HasNone, IsFirstFrom};
 
 use ids_base::memory::Memory;
@@ -72,13 +73,13 @@ impl<K: Ord + Copy> Node<K> {
 
     // Counts anew what is below the node, and it.
     fn recount(&mut self)
-        requires { length self.old.left + length self.old.right + 1 < 2 ^ 32 }
-        ensures counted { self.new.count ≡ length self.old.left + length self.old.right + 1 }
+        ensures counted { self.new.count ≡ up_to_max (length self.old.left + length self.old.right + 1) }
         ensures item { self.new.item ≡ self.old.item }
         ensures left { self.new.left ≡ self.old.left }
         ensures right { self.new.right ≡ self.old.right }
     {
-        self.count = self.left.len() + self.right.len() + 1;
+        let below = self.left.len().saturating_add(self.right.len());
+        self.count = below.saturating_add(1);
     }
 }
 
@@ -90,9 +91,9 @@ impl<K: Ord + Copy> Tree<K> {
         Tree { link: Link::End }
     }
 
-    /// How many items there are. Constant time.
+    /// How many items there are, as far as a `u32` can tell. Constant time.
     pub fn len(&self) -> u32
-        ensures { result ≡ length self.now }
+        ensures { result ≡ up_to_max (length self.now) }
     {
         match &self.link {
             Link::End => 0,
@@ -102,7 +103,6 @@ impl<K: Ord + Copy> Tree<K> {
 
     // The tree of a node.
     fn of(node: Box<Node<K>>) -> Tree<K>
-        requires { length node.value.left + length node.value.right + 1 < 2 ^ 32 }
         ensures { result ≡ node.value.left ++ node.value.item ∷ node.value.right }
     {
         let mut node = node;
@@ -123,7 +123,8 @@ impl<K: Ord + Copy> Tree<K> {
 
     /// How many items are less than a bound. Logarithmic.
     pub fn count_below(&self, bound: &K) -> u32
-        requires { IsOrdered K.cmp self.now }
+        requires ordered { IsOrdered K.cmp self.now }
+        requires few { length self.now < 2 ^ 32 }
         ensures { result ≡ count_by (λ x. less K.cmp x bound.now) self.now }
     {
         match &self.link {
@@ -140,8 +141,7 @@ impl<K: Ord + Copy> Tree<K> {
 
     /// Puts in the item of a node, before those that are not less. Logarithmic.
     pub fn insert(&mut self, node: Box<Node<K>>)
-        requires ordered { IsOrdered K.cmp self.old }
-        requires few { length self.old + 1 < 2 ^ 32 }
+        requires { IsOrdered K.cmp self.old }
         ensures put { IsPut K.cmp self.old self.new node.value.item }
         ensures ordered { IsOrdered K.cmp self.new }
     {
@@ -180,7 +180,6 @@ impl<K: Ord + Copy> Tree<K> {
         ensures all { result.0 ++ result.1 ≡ self }
         ensures low { AreBelow K.cmp bound.now result.0 }
         ensures high { AreFrom K.cmp bound.now result.1 }
-        ensures few { length self < 2 ^ 32 }
     {
         match self.link {
             Link::End => (Tree::new(), Tree::new()),
@@ -200,7 +199,6 @@ impl<K: Ord + Copy> Tree<K> {
 
     // These items and then others.
     fn join(self, others: Tree<K>) -> Tree<K>
-        requires { length self + length others < 2 ^ 32 }
         ensures { result ≡ self ++ others }
     {
         match (self.link, others.link) {
@@ -251,7 +249,6 @@ impl<K: Ord + Copy> Tree<K> {
 
     /// Puts in the item of a node, before all others. Logarithmic.
     pub fn push(&mut self, node: Box<Node<K>>)
-        requires { length self.old + 1 < 2 ^ 32 }
         ensures { self.new ≡ node.value.item ∷ self.old }
     {
         *self = Tree::alone(node).join(taken(self));
@@ -316,7 +313,6 @@ impl<K: Ord + Copy> Store<K> {
 
     /// Makes a node more, which holds any item meanwhile. Answers `Memory` only for want of memory, and all is as it was then. Logarithmic.
     pub fn reserve(&mut self, alloc: Global, item: K) -> Result<(), Memory>
-        requires few { length self.old.spare + 1 < 2 ^ 32 }
         ensures items { self.new.items ≡ self.old.items }
         ensures ok { OnOk result (length self.new.spare ≡ length self.old.spare + 1) }
         ensures err { OnErr result (self.new.spare ≡ self.old.spare) }
@@ -330,7 +326,6 @@ impl<K: Ord + Copy> Store<K> {
     pub fn put(&mut self, item: K)
         requires ordered { IsOrdered K.cmp self.old.items }
         requires room { 0 < length self.old.spare }
-        requires few { length self.old.items + length self.old.spare < 2 ^ 32 }
         ensures put { IsPut K.cmp self.old.items self.new.items item }
         ensures ordered { IsOrdered K.cmp self.new.items }
         ensures spare { length self.old.spare ≡ length self.new.spare + 1 }
@@ -344,8 +339,7 @@ impl<K: Ord + Copy> Store<K> {
     /// Takes out an item that is neither less nor greater than one, and gives it; `None` exactly where there is none. Logarithmic; takes no
     /// memory.
     pub fn take(&mut self, item: &K) -> Option<K>
-        requires ordered { IsOrdered K.cmp self.old.items }
-        requires few { length self.old.items + length self.old.spare < 2 ^ 32 }
+        requires { IsOrdered K.cmp self.old.items }
         ensures taken { MatchOption result (HasNone K.cmp self.old.items item.now × (self.new.items ≡ self.old.items)) (IsTaken K.cmp self.old.items self.new.items item.now) }
         ensures spare { MatchOption result (self.new.spare ≡ self.old.spare) (λ _. length self.new.spare ≡ length self.old.spare + 1) }
         ensures ordered { IsOrdered K.cmp self.new.items }

@@ -3,7 +3,8 @@ use Rattle.std.proofs.Math.ListN.{length-set}
 use Rattle.std.proofs.lemmas.Bool.{cases_lt}
 use Rattle.table_space.specs.declared.pages.Place.{Place}
 use Rattle.table_space.specs.Pages.{place, place_cmp, one_owned}
-use Rattle.table_space.proofs.OwnedPages.{count-all, count-put, owned-one, owned-set, owned-room, owner-stays}
+use Rattle.table_space.proofs.Tallies.{count-all, count-put}
+use Rattle.table_space.proofs.OwnedPages.{owned-one, owned-set, owned-room, owner-stays}
 use Rattle.table_space.proofs.pages.Pages.set.Goals as goal
 
 abbrev any : Place → Bool

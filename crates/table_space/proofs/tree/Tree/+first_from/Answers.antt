@@ -7,21 +7,21 @@ use Rattle.table_space.proofs.tree.Tree.+first_from.Goals as goal
 
 pub first_from-requires : goal.first_from-requires
 first_from-requires g t c κs within =
-    let f = at_fork c.self.view_is c.self.invariant c.in-Fork.is in
+    let f = at_fork c.self.view_is c.in-Fork.is in
     let n : c.deref-then-is_less.result.now ≡ c.in-Fork.node.value = cc in
     let o = (ordered-right g.K.Ord.cmp c.in-Fork.node.value.left (c.in-Fork.node.value.item ∷ c.in-Fork.node.value.right) (rw f.is at c.requires)).1 in
     (omega (arith, f.long, c.decreases, ap (λ z. length z.right) n), (within, subst (λ z. IsOrdered g.K.Ord.cmp z.right) (sym n) o))
 
 pub first_from-requires-else-is_less : goal.first_from-requires-else-is_less
 first_from-requires-else-is_less g t c κs within =
-    let f = at_fork c.self.view_is c.self.invariant c.in-Fork.is in
+    let f = at_fork c.self.view_is c.in-Fork.is in
     let n : c.deref-else-is_less.result.now ≡ c.in-Fork.node.value = cc in
     let o = ordered-left g.K.Ord.cmp c.in-Fork.node.value.left (c.in-Fork.node.value.item ∷ c.in-Fork.node.value.right) (rw f.is at c.requires) in
     (omega (arith, f.long, c.decreases, ap (λ z. length z.left) n), (within, subst (λ z. IsOrdered g.K.Ord.cmp z.left) (sym n) o))
 
 pub returns-then-is_less : goal.returns-then-is_less
 returns-then-is_less g t c =
-    let f = at_fork c.self.view_is c.self.invariant c.in-Fork.is in
+    let f = at_fork c.self.view_is c.in-Fork.is in
     let n : c.deref-then-is_less.result.now ≡ c.in-Fork.node.value = cc in
     let r : c.deref.result.now ≡ c.in-Fork.node.value = cc in
     let i : less g.K.Ord.cmp c.in-Fork.node.value.item c.args.bound.now ≡ true = ap (λ z. less g.K.Ord.cmp z.item c.args.bound.now) (sym r) ∙ (sym c.is_less.ensures ∙ c.if-is_less.true) in

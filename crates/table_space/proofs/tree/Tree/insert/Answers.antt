@@ -5,7 +5,7 @@ use Rattle.table_space.proofs.tree.Tree.insert.Goals as goal
 
 pub returns-clause-ordered : goal.returns-clause-ordered
 returns-clause-ordered g c =
-    let o = subst (IsOrdered g.K.Ord.cmp) (sym (c.split-low.ensures.all ∙ c.taken.ensures.given)) c.requires.ordered in
+    let o = subst (IsOrdered g.K.Ord.cmp) (sym (c.split-low.ensures.all ∙ c.taken.ensures.given)) c.requires in
     let n : c.deref.result.now ≡ c.args.node.value = cc in
     let e = c.join-2.ensures ∙ ap (λ z. c.split-low.result.0 ++ z) (c.join.ensures ∙ ap (λ z. z ++ c.split-low.result.1) c.alone.ensures) in
     subst
