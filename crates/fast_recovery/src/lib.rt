@@ -2,8 +2,8 @@
 //!
 //! Read in this order: the parts, which are the owners of pages, the rows in slots and the standing changes; the replay of a
 //! log, which has all three; the tables that pages and rows stand for, which are found by the rows of the catalogue first and
-//! the other rows after them; and opening, which replays the log of a disk, where each record is in order and in its place,
-//! and transactions are numbered rising.
+//! the other rows after them; opening, which replays the log of a disk, where each record is in order and in its place,
+//! and transactions are numbered rising; and `log_laws`, what is kept of the records that are appended from there on.
 #![tactic(auto)]
 
 mod catalogue;

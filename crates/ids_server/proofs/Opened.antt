@@ -3,6 +3,7 @@ use Rattle.std.proofs.Common.{◌≡◌, ◌∙◌, refl, sym, ap, subst, inl, i
 use Rattle.ids_base.specs.declared.status.Status.{Status}
 use Rattle.ids_base.specs.declared.status.Status.TheVariants.{Done, DiskFault}
 use Rattle.ids_outside.specs.Images.{Image}
+use Rattle.ids_outside.specs.declared.disk.Disk.{Ghosts}
 use Rattle.ids_model.specs.declared.journal.Committed.{Committed}
 use Rattle.ids_model.specs.declared.journal.Given.{Given}
 use Rattle.ids_model.specs.Tables.{Tables}
@@ -85,24 +86,24 @@ module _ {D : Type 0} (tells : Type 0) (now : D → ℕ) (image : D → Image) (
   runs_nothing starts bytes found old new status failed journal given none no_reply not_done checked bad so stay =
       runs_shown bytes found old new status [] journal [] given none no_reply (nothing_ran starts bytes found old new status failed not_done checked bad so stay)
 
-module _ {D : Type 0} (tells : Type 0) (size : D → ℕ → ℕ) (now : D → ℕ) (image : D → Image) (can_leave : D → Image → Type 0) (left_at : D → ℕ → Image → Type 0) where
+module _ {D : Type 0} (tells : Type 0) (means : Ghosts D) where
   -- a runner that was made of a store keeps what the store keeps
   pub keeps_at_start : (runner : Runner) (store : Store) → running_of runner ≡ record { tables = store.tables; inside = None; journal = []; given = [] } → runner.store ≡ store
-      → (since : ℕ) (base : Image) (found : Tables) (disk : D) → KeepsStore tells size now image can_leave left_at since base found [] [] store disk → KeepsRun tells size now image can_leave left_at since base found runner disk
+      → (since : ℕ) (base : Image) (found : Tables) (disk : D) → KeepsStore tells means since base found [] [] store disk → KeepsRun tells means since base found runner disk
   keeps_at_start runner store fresh same since base found disk keeps =
-      subst (λ (s : Store). KeepsStore tells size now image can_leave left_at since base found (done_of runner.journal.items) (effects_of runner.inside) s disk) (sym same)
-      (subst (λ (r : Running). KeepsStore tells size now image can_leave left_at since base found (done_of r.journal) (effects_of r.inside) store disk) (sym fresh) keeps)
+      subst (λ (s : Store). KeepsStore tells means since base found (done_of runner.journal.items) (effects_of runner.inside) s disk) (sym same)
+      (subst (λ (r : Running). KeepsStore tells means since base found (done_of r.journal) (effects_of r.inside) store disk) (sym fresh) keeps)
 
   -- A run over the store that was made of a disk: the tables that were found are the store's.
-  pub runs_over : RunLaws → ((d : D) (m : ℕ) (c : Image) → left_at d m c → tells) → (bytes : List ℕ) (store : Store) (old opened new : D) (status : Status) (journal : List Committed) (given : List Given)
+  pub runs_over : RunLaws → ((d : D) (m : ℕ) (c : Image) → means.left_at d m c → tells) → (bytes : List ℕ) (store : Store) (old opened new : D) (status : Status) (journal : List Committed) (given : List Given)
       → InGrammar bytes → TellsBad bytes status
-      → ((T : Tables) → tells → Recovers (image old) T → HasFound tells size now image can_leave left_at store old opened T)
+      → ((T : Tables) → tells → Recovers (means.image old) T → HasFound tells means store old opened T)
       → ((script : Script) → IsScriptOf bytes script → HasRun script store.tables status journal given)
-      → HaveMoments (now new) journal
-      → ((since : ℕ) (base : Image) (found : Tables) → KeepsStore tells size now image can_leave left_at since base found [] [] store opened → Survives now left_at since found (done_of journal) new)
-      → (status ≡ Done → (since : ℕ) (base : Image) (found : Tables) → KeepsStore tells size now image can_leave left_at since base found [] [] store opened
-      → (c : Image) → can_leave new c → Recovers c (tables_from found (done_of journal)))
-      → RunsFrom tells now image can_leave left_at bytes store.tables old new status journal given
+      → HaveMoments (means.now new) journal
+      → ((since : ℕ) (base : Image) (found : Tables) → KeepsStore tells means since base found [] [] store opened → Survives means.now means.left_at since found (done_of journal) new)
+      → (status ≡ Done → (since : ℕ) (base : Image) (found : Tables) → KeepsStore tells means since base found [] [] store opened
+      → (c : Image) → means.can_leave new c → Recovers c (tables_from found (done_of journal)))
+      → RunsFrom tells means.now means.image means.can_leave means.left_at bytes store.tables old new status journal given
   runs_over laws left_tells bytes store old opened new status journal given grammar bad finds has_run moments survives at_end =
       let script = laws.scripts bytes grammar in
       let ran = has_run script.0 script.1 in
@@ -118,12 +119,12 @@ module _ {D : Type 0} (tells : Type 0) (size : D → ℕ → ℕ) (now : D → �
         };
         moments = moments;
         opened = λ t T recovers. inr (finds T t recovers).tables;
-        any_moment = λ bound. each-since now image can_leave left_at old new _ (λ m c. (T : Tables) → Recovers (image old) T → LeavesFirst T journal m c) (λ m c since left T recovers.
+        any_moment = λ bound. each-since means.now means.image means.can_leave means.left_at old new _ (λ m c. (T : Tables) → Recovers (means.image old) T → LeavesFirst T journal m c) (λ m c since left T recovers.
             let found = finds T (left_tells new m c left) recovers in
             leaves_first laws.covered store.tables T journal m c found.tables ran.timely
-            (survives m (image old) store.tables (found.keeps m since) bound m c (omega arith) left));
+            (survives m (means.image old) store.tables (found.keeps m since) bound m c (omega arith) left));
         at_end = λ done t T recovers c leave.
             let found = finds T t recovers in
             subst (Recovers c) (sym (ap (λ (F : Tables). fold_journal F journal) found.tables ∙ sym (laws.leave store.tables journal)))
-            (at_end done (now old + 1) (image old) store.tables (found.keeps (now old + 1) (inr (omega arith))) c leave);
+            (at_end done (means.now old + 1) (means.image old) store.tables (found.keeps (means.now old + 1) (inr (omega arith))) c leave);
       }

@@ -3,6 +3,7 @@ use Rattle.std.specs.Prelude.{◌≡◌, ◌⊎◌, ℕ, ◌*◌, [], ◌∷◌}
 use Rattle.ids_base.specs.RowIds.{slot_count}
 use Rattle.ids_base.specs.declared.plan.DataStatement.{DataStatement}
 use Rattle.ids_outside.specs.Images.{Image}
+use Rattle.ids_outside.specs.declared.disk.Disk.{Ghosts}
 use Rattle.ids_model.specs.declared.effect.Effect.{Effect}
 use Rattle.ids_model.specs.Tables.{Tables}
 use Rattle.ids_model.specs.Meaning.{one}
@@ -19,13 +20,13 @@ abbrev pub running_of : Runner → Running
 running_of r = record { tables = r.store.tables; inside = r.inside; journal = r.journal.items; given = r.given.items }
 
 -- its store keeps the transactions of the journal, and the open one
-abbrev pub KeepsRun : {D : Type 0} → Type 0 → (D → ℕ → ℕ) → (D → ℕ) → (D → Image) → (D → Image → Type 0) → (D → ℕ → Image → Type 0) → ℕ → Image → Tables → Runner → D → Type 0
-KeepsRun {D} tells size now image can_leave left_at since base found r disk =
-    KeepsStore tells size now image can_leave left_at since base found (done_of r.journal.items) (effects_of r.inside) r.store disk
+abbrev pub KeepsRun : {D : Type 0} → Type 0 → Ghosts D → ℕ → Image → Tables → Runner → D → Type 0
+KeepsRun {D} tells means since base found r disk =
+    KeepsStore tells means since base found (done_of r.journal.items) (effects_of r.inside) r.store disk
 
 -- its store is one, whatever the disk tells, and has the effects of the open transaction noted
-pub record HasStore {D : Type 0} (size : D → ℕ → ℕ) (now : D → ℕ) (image : D → Image) (can_leave : D → Image → Type 0) (left_at : D → ℕ → Image → Type 0) (r : Runner) (disk : D) : Type 0 where
-  pub sound : IsStore ⊥ size now image can_leave left_at r.store disk
+pub record HasStore {D : Type 0} (means : Ghosts D) (r : Runner) (disk : D) : Type 0 where
+  pub sound : IsStore ⊥ means r.store disk
   pub noted : r.store.undo ≡ effects_of r.inside
 
 -- an effect that takes away a row that is there

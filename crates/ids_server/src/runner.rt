@@ -188,23 +188,23 @@ impl Runner {
         reply: Reply,
     ) -> Result<(), StoreFault>
         requires room { length self.old.given.items + 1 < 2 ^ 32 }
-        requires store { IsStore ⊥ D.size D.now D.image D.can_leave D.left_at self.old.store disk.old }
+        requires store { IsStore ⊥ D.Disk self.old.store disk.old }
         requires some { ¬ (effects ≡ []) }
 
         ensures ok { OnOk result (running_of self.new ≡ committed (D.now disk.new) (running_of self.old) done effects reply) }
-        ensures store { OnOk result (IsStore ⊥ D.size D.now D.image D.can_leave D.left_at self.new.store disk.new) }
+        ensures store { OnOk result (IsStore ⊥ D.Disk self.new.store disk.new) }
         ensures noted { OnOk result (self.new.store.undo ≡ []) }
         ensures kept { OnOk result ((since : ℕ) (base : Image) (found : Tables)
-            → KeepsStore D.tells D.size D.now D.image D.can_leave D.left_at since base found (done_of self.old.journal.items) effects self.old.store disk.old
-            → KeepsStore D.tells D.size D.now D.image D.can_leave D.left_at since base found (done_of self.new.journal.items) [] self.new.store disk.new) }
+            → KeepsStore D.tells D.Disk since base found (done_of self.old.journal.items) effects self.old.store disk.old
+            → KeepsStore D.tells D.Disk since base found (done_of self.new.journal.items) [] self.new.store disk.new) }
         ensures journal { OnErr result ((self.new.journal.items ≡ self.old.journal.items) ⊎ (self.new.journal.items ≡ self.old.journal.items ++ entry_unanswered 1 done effects None ∷ [])) }
         ensures given { OnErr result (self.new.given.items ≡ self.old.given.items) }
         ensures survives { OnErr result ((since : ℕ) (base : Image) (found : Tables)
-            → KeepsStore D.tells D.size D.now D.image D.can_leave D.left_at since base found (done_of self.old.journal.items) effects self.old.store disk.old
+            → KeepsStore D.tells D.Disk since base found (done_of self.old.journal.items) effects self.old.store disk.old
             → Survives D.now D.left_at since found (done_of self.new.journal.items) disk.new) }
         ensures out_of_blocks { result ≡ Err StoreFault.LogFull → (since : ℕ) (base : Image) (found : Tables)
-            → KeepsStore D.tells D.size D.now D.image D.can_leave D.left_at since base found (done_of self.old.journal.items) effects self.old.store disk.old
-            → IsOutOfBlocks D.tells D.size D.now D.image D.can_leave D.left_at since base found (done_of self.new.journal.items) self.new.store disk.new }
+            → KeepsStore D.tells D.Disk since base found (done_of self.old.journal.items) effects self.old.store disk.old
+            → IsOutOfBlocks D.tells D.Disk since base found (done_of self.new.journal.items) self.new.store disk.new }
         ensures later { D.now disk.old ≤ D.now disk.new }
         ensures counted { D.fault_count disk.old ≤ D.fault_count disk.new }
         ensures disk_fault { result ≡ Err StoreFault.Disk → Rose (D.fault_count disk.old) (D.fault_count disk.new) }
@@ -236,23 +236,23 @@ impl Runner {
         reply: Reply,
     ) -> Result<(), StoreFault>
         requires room { length self.old.given.items + 1 < 2 ^ 32 }
-        requires store { IsStore ⊥ D.size D.now D.image D.can_leave D.left_at self.old.store disk.old }
+        requires store { IsStore ⊥ D.Disk self.old.store disk.old }
         requires noted { self.old.store.undo ≡ effects }
 
         ensures ok { OnOk result (running_of self.new ≡ committed (D.now disk.new) (running_of self.old) done effects reply) }
-        ensures store { OnOk result (IsStore ⊥ D.size D.now D.image D.can_leave D.left_at self.new.store disk.new) }
+        ensures store { OnOk result (IsStore ⊥ D.Disk self.new.store disk.new) }
         ensures noted { OnOk result (self.new.store.undo ≡ []) }
         ensures kept { OnOk result ((since : ℕ) (base : Image) (found : Tables)
-            → KeepsStore D.tells D.size D.now D.image D.can_leave D.left_at since base found (done_of self.old.journal.items) effects self.old.store disk.old
-            → KeepsStore D.tells D.size D.now D.image D.can_leave D.left_at since base found (done_of self.new.journal.items) [] self.new.store disk.new) }
+            → KeepsStore D.tells D.Disk since base found (done_of self.old.journal.items) effects self.old.store disk.old
+            → KeepsStore D.tells D.Disk since base found (done_of self.new.journal.items) [] self.new.store disk.new) }
         ensures journal { OnErr result ((self.new.journal.items ≡ self.old.journal.items) ⊎ (¬ (effects ≡ []) × (self.new.journal.items ≡ self.old.journal.items ++ entry_unanswered 1 done effects None ∷ []))) }
         ensures given { OnErr result (self.new.given.items ≡ self.old.given.items) }
         ensures survives { OnErr result ((since : ℕ) (base : Image) (found : Tables)
-            → KeepsStore D.tells D.size D.now D.image D.can_leave D.left_at since base found (done_of self.old.journal.items) effects self.old.store disk.old
+            → KeepsStore D.tells D.Disk since base found (done_of self.old.journal.items) effects self.old.store disk.old
             → Survives D.now D.left_at since found (done_of self.new.journal.items) disk.new) }
         ensures out_of_blocks { result ≡ Err StoreFault.LogFull → (since : ℕ) (base : Image) (found : Tables)
-            → KeepsStore D.tells D.size D.now D.image D.can_leave D.left_at since base found (done_of self.old.journal.items) effects self.old.store disk.old
-            → IsOutOfBlocks D.tells D.size D.now D.image D.can_leave D.left_at since base found (done_of self.new.journal.items) self.new.store disk.new }
+            → KeepsStore D.tells D.Disk since base found (done_of self.old.journal.items) effects self.old.store disk.old
+            → IsOutOfBlocks D.tells D.Disk since base found (done_of self.new.journal.items) self.new.store disk.new }
         ensures later { D.now disk.old ≤ D.now disk.new }
         ensures counted { D.fault_count disk.old ≤ D.fault_count disk.new }
         ensures disk_fault { result ≡ Err StoreFault.Disk → Rose (D.fault_count disk.old) (D.fault_count disk.new) }
@@ -268,23 +268,23 @@ impl Runner {
 
     // Takes rows away, in order.
     fn take_rows<D: Disk>(&mut self, disk: &mut D, gone: &[Effect]) -> Result<(), StoreFault>
-        requires store { IsStore ⊥ D.size D.now D.image D.can_leave D.left_at self.old.store disk.old }
+        requires store { IsStore ⊥ D.Disk self.old.store disk.old }
         requires fits { Fits self.old.store.tables gone.now }
         requires rows { AllByRecursion Goes gone.now }
 
         ensures running { OnOk result (running_of self.new ≡ record (running_of self.old) { tables = apply_all self.old.store.tables gone.now }) }
-        ensures store { OnOk result (IsStore ⊥ D.size D.now D.image D.can_leave D.left_at self.new.store disk.new) }
+        ensures store { OnOk result (IsStore ⊥ D.Disk self.new.store disk.new) }
         ensures noted { OnOk result (self.new.store.undo ≡ self.old.store.undo ++ gone.now) }
         ensures kept { OnOk result ((since : ℕ) (base : Image) (found : Tables) (earlier : List Done) (so_far : List effects.Effect)
-            → KeepsStore D.tells D.size D.now D.image D.can_leave D.left_at since base found earlier so_far self.old.store disk.old
-            → KeepsStore D.tells D.size D.now D.image D.can_leave D.left_at since base found earlier (so_far ++ gone.now) self.new.store disk.new) }
+            → KeepsStore D.tells D.Disk since base found earlier so_far self.old.store disk.old
+            → KeepsStore D.tells D.Disk since base found earlier (so_far ++ gone.now) self.new.store disk.new) }
         ensures same { (self.new.inside ≡ self.old.inside) × (self.new.journal ≡ self.old.journal) × (self.new.given ≡ self.old.given) }
         ensures survives { OnErr result ((since : ℕ) (base : Image) (found : Tables) (earlier : List Done) (so_far : List effects.Effect)
-            → KeepsStore D.tells D.size D.now D.image D.can_leave D.left_at since base found earlier so_far self.old.store disk.old
+            → KeepsStore D.tells D.Disk since base found earlier so_far self.old.store disk.old
             → Survives D.now D.left_at since found earlier disk.new) }
         ensures out_of_blocks { result ≡ Err StoreFault.LogFull → (since : ℕ) (base : Image) (found : Tables) (earlier : List Done) (so_far : List effects.Effect)
-            → KeepsStore D.tells D.size D.now D.image D.can_leave D.left_at since base found earlier so_far self.old.store disk.old
-            → IsOutOfBlocks D.tells D.size D.now D.image D.can_leave D.left_at since base found earlier self.new.store disk.new }
+            → KeepsStore D.tells D.Disk since base found earlier so_far self.old.store disk.old
+            → IsOutOfBlocks D.tells D.Disk since base found earlier self.new.store disk.new }
         ensures later { D.now disk.old ≤ D.now disk.new }
         ensures counted { D.fault_count disk.old ≤ D.fault_count disk.new }
         ensures disk_fault { result ≡ Err StoreFault.Disk → Rose (D.fault_count disk.old) (D.fault_count disk.new) }
@@ -301,23 +301,23 @@ impl Runner {
         disk: &mut D,
         statement: &DataStatement,
     ) -> Result<Outcome, StoreFault>
-        requires store { IsStore ⊥ D.size D.now D.image D.can_leave D.left_at self.old.store disk.old }
+        requires store { IsStore ⊥ D.Disk self.old.store disk.old }
 
         ensures outcome { IfOk result (λ o. IsOutcome self.old.store.tables statement.now o.reply o.effects) }
         ensures full { IfOk result (λ o. (rows pages : ℕ) → o.reply ≡ Reply.NoSpace rows pages → HasNoRoom self.old.store statement.now rows pages) }
         ensures running { IfOk result (λ o. running_of self.new ≡ record (running_of self.old) { tables = apply_all self.old.store.tables o.effects }) }
-        ensures store { OnOk result (IsStore ⊥ D.size D.now D.image D.can_leave D.left_at self.new.store disk.new) }
+        ensures store { OnOk result (IsStore ⊥ D.Disk self.new.store disk.new) }
         ensures noted { IfOk result (λ o. self.new.store.undo ≡ self.old.store.undo ++ o.effects) }
         ensures kept { IfOk result (λ o. (since : ℕ) (base : Image) (found : Tables) (earlier : List Done) (so_far : List effects.Effect)
-            → KeepsStore D.tells D.size D.now D.image D.can_leave D.left_at since base found earlier so_far self.old.store disk.old
-            → KeepsStore D.tells D.size D.now D.image D.can_leave D.left_at since base found earlier (so_far ++ o.effects) self.new.store disk.new) }
+            → KeepsStore D.tells D.Disk since base found earlier so_far self.old.store disk.old
+            → KeepsStore D.tells D.Disk since base found earlier (so_far ++ o.effects) self.new.store disk.new) }
         ensures same { OnErr result ((self.new.inside ≡ self.old.inside) × (self.new.journal ≡ self.old.journal) × (self.new.given ≡ self.old.given)) }
         ensures survives { OnErr result ((since : ℕ) (base : Image) (found : Tables) (earlier : List Done) (so_far : List effects.Effect)
-            → KeepsStore D.tells D.size D.now D.image D.can_leave D.left_at since base found earlier so_far self.old.store disk.old
+            → KeepsStore D.tells D.Disk since base found earlier so_far self.old.store disk.old
             → Survives D.now D.left_at since found earlier disk.new) }
         ensures out_of_blocks { result ≡ Err StoreFault.LogFull → (since : ℕ) (base : Image) (found : Tables) (earlier : List Done) (so_far : List effects.Effect)
-            → KeepsStore D.tells D.size D.now D.image D.can_leave D.left_at since base found earlier so_far self.old.store disk.old
-            → IsOutOfBlocks D.tells D.size D.now D.image D.can_leave D.left_at since base found earlier self.new.store disk.new }
+            → KeepsStore D.tells D.Disk since base found earlier so_far self.old.store disk.old
+            → IsOutOfBlocks D.tells D.Disk since base found earlier self.new.store disk.new }
         ensures later { D.now disk.old ≤ D.now disk.new }
         ensures counted { D.fault_count disk.old ≤ D.fault_count disk.new }
         ensures disk_fault { result ≡ Err StoreFault.Disk → Rose (D.fault_count disk.old) (D.fault_count disk.new) }
@@ -367,21 +367,21 @@ impl Runner {
     // A data statement.
     fn data<D: Disk>(&mut self, disk: &mut D, statement: DataStatement) -> Result<(), StoreFault>
         requires room { length self.old.given.items + 1 < 2 ^ 32 }
-        requires store { HasStore D.size D.now D.image D.can_leave D.left_at self.old disk.old }
+        requires store { HasStore D.Disk self.old disk.old }
 
         ensures stepped { OnOk result (Steps (D.now disk.new) (running_of self.old) (Plan.Data statement) (running_of self.new)) }
-        ensures store { OnOk result (HasStore D.size D.now D.image D.can_leave D.left_at self.new disk.new) }
+        ensures store { OnOk result (HasStore D.Disk self.new disk.new) }
         ensures kept { OnOk result ((since : ℕ) (base : Image) (found : Tables)
-            → KeepsRun D.tells D.size D.now D.image D.can_leave D.left_at since base found self.old disk.old
-            → KeepsRun D.tells D.size D.now D.image D.can_leave D.left_at since base found self.new disk.new) }
+            → KeepsRun D.tells D.Disk since base found self.old disk.old
+            → KeepsRun D.tells D.Disk since base found self.new disk.new) }
         ensures failed { OnErr result (Fails (running_of self.old) (Plan.Data statement) self.new.journal.items) }
         ensures given { OnErr result (self.new.given.items ≡ self.old.given.items) }
         ensures survives { OnErr result ((since : ℕ) (base : Image) (found : Tables)
-            → KeepsRun D.tells D.size D.now D.image D.can_leave D.left_at since base found self.old disk.old
+            → KeepsRun D.tells D.Disk since base found self.old disk.old
             → Survives D.now D.left_at since found (done_of self.new.journal.items) disk.new) }
         ensures out_of_blocks { result ≡ Err StoreFault.LogFull → (since : ℕ) (base : Image) (found : Tables)
-            → KeepsRun D.tells D.size D.now D.image D.can_leave D.left_at since base found self.old disk.old
-            → IsOutOfBlocks D.tells D.size D.now D.image D.can_leave D.left_at since base found (done_of self.new.journal.items) self.new.store disk.new }
+            → KeepsRun D.tells D.Disk since base found self.old disk.old
+            → IsOutOfBlocks D.tells D.Disk since base found (done_of self.new.journal.items) self.new.store disk.new }
         ensures later { D.now disk.old ≤ D.now disk.new }
         ensures counted { D.fault_count disk.old ≤ D.fault_count disk.new }
         ensures disk_fault { result ≡ Err StoreFault.Disk → Rose (D.fault_count disk.old) (D.fault_count disk.new) }
@@ -424,21 +424,21 @@ impl Runner {
     // COMMIT WORK.
     fn commit_work<D: Disk>(&mut self, disk: &mut D) -> Result<(), StoreFault>
         requires room { length self.old.given.items + 1 < 2 ^ 32 }
-        requires store { HasStore D.size D.now D.image D.can_leave D.left_at self.old disk.old }
+        requires store { HasStore D.Disk self.old disk.old }
 
         ensures stepped { OnOk result (Steps (D.now disk.new) (running_of self.old) Plan.Commit (running_of self.new)) }
-        ensures store { OnOk result (HasStore D.size D.now D.image D.can_leave D.left_at self.new disk.new) }
+        ensures store { OnOk result (HasStore D.Disk self.new disk.new) }
         ensures kept { OnOk result ((since : ℕ) (base : Image) (found : Tables)
-            → KeepsRun D.tells D.size D.now D.image D.can_leave D.left_at since base found self.old disk.old
-            → KeepsRun D.tells D.size D.now D.image D.can_leave D.left_at since base found self.new disk.new) }
+            → KeepsRun D.tells D.Disk since base found self.old disk.old
+            → KeepsRun D.tells D.Disk since base found self.new disk.new) }
         ensures failed { OnErr result (Fails (running_of self.old) Plan.Commit self.new.journal.items) }
         ensures given { OnErr result (self.new.given.items ≡ self.old.given.items) }
         ensures survives { OnErr result ((since : ℕ) (base : Image) (found : Tables)
-            → KeepsRun D.tells D.size D.now D.image D.can_leave D.left_at since base found self.old disk.old
+            → KeepsRun D.tells D.Disk since base found self.old disk.old
             → Survives D.now D.left_at since found (done_of self.new.journal.items) disk.new) }
         ensures out_of_blocks { result ≡ Err StoreFault.LogFull → (since : ℕ) (base : Image) (found : Tables)
-            → KeepsRun D.tells D.size D.now D.image D.can_leave D.left_at since base found self.old disk.old
-            → IsOutOfBlocks D.tells D.size D.now D.image D.can_leave D.left_at since base found (done_of self.new.journal.items) self.new.store disk.new }
+            → KeepsRun D.tells D.Disk since base found self.old disk.old
+            → IsOutOfBlocks D.tells D.Disk since base found (done_of self.new.journal.items) self.new.store disk.new }
         ensures later { D.now disk.old ≤ D.now disk.new }
         ensures counted { D.fault_count disk.old ≤ D.fault_count disk.new }
         ensures disk_fault { result ≡ Err StoreFault.Disk → Rose (D.fault_count disk.old) (D.fault_count disk.new) }
@@ -454,22 +454,22 @@ impl Runner {
 
     /// Takes the open transaction back, without a reply; where none is open it does nothing. Errors are those of the store.
     pub(crate) fn end<D: Disk>(&mut self, disk: &mut D) -> Result<(), StoreFault>
-        requires store { HasStore D.size D.now D.image D.can_leave D.left_at self.old disk.old }
+        requires store { HasStore D.Disk self.old disk.old }
 
         ensures ended { OnOk result (running_of self.new ≡ taken_back (running_of self.old) self.old.inside) }
         ensures closed { OnOk result (self.new.inside ≡ None) }
-        ensures store { OnOk result (HasStore D.size D.now D.image D.can_leave D.left_at self.new disk.new) }
+        ensures store { OnOk result (HasStore D.Disk self.new disk.new) }
         ensures kept { OnOk result ((since : ℕ) (base : Image) (found : Tables)
-            → KeepsRun D.tells D.size D.now D.image D.can_leave D.left_at since base found self.old disk.old
-            → KeepsRun D.tells D.size D.now D.image D.can_leave D.left_at since base found self.new disk.new) }
+            → KeepsRun D.tells D.Disk since base found self.old disk.old
+            → KeepsRun D.tells D.Disk since base found self.new disk.new) }
         ensures journal { self.new.journal ≡ self.old.journal }
         ensures given { self.new.given ≡ self.old.given }
         ensures survives { OnErr result ((since : ℕ) (base : Image) (found : Tables)
-            → KeepsRun D.tells D.size D.now D.image D.can_leave D.left_at since base found self.old disk.old
+            → KeepsRun D.tells D.Disk since base found self.old disk.old
             → Survives D.now D.left_at since found (done_of self.new.journal.items) disk.new) }
         ensures out_of_blocks { result ≡ Err StoreFault.LogFull → (since : ℕ) (base : Image) (found : Tables)
-            → KeepsRun D.tells D.size D.now D.image D.can_leave D.left_at since base found self.old disk.old
-            → IsOutOfBlocks D.tells D.size D.now D.image D.can_leave D.left_at since base found (done_of self.new.journal.items) self.new.store disk.new }
+            → KeepsRun D.tells D.Disk since base found self.old disk.old
+            → IsOutOfBlocks D.tells D.Disk since base found (done_of self.new.journal.items) self.new.store disk.new }
         ensures later { D.now disk.old ≤ D.now disk.new }
         ensures counted { D.fault_count disk.old ≤ D.fault_count disk.new }
         ensures disk_fault { result ≡ Err StoreFault.Disk → Rose (D.fault_count disk.old) (D.fault_count disk.new) }
@@ -485,21 +485,21 @@ impl Runner {
     // ROLLBACK WORK.
     fn rollback_work<D: Disk>(&mut self, disk: &mut D) -> Result<(), StoreFault>
         requires room { length self.old.given.items + 1 < 2 ^ 32 }
-        requires store { HasStore D.size D.now D.image D.can_leave D.left_at self.old disk.old }
+        requires store { HasStore D.Disk self.old disk.old }
 
         ensures stepped { OnOk result (Steps (D.now disk.new) (running_of self.old) Plan.Rollback (running_of self.new)) }
-        ensures store { OnOk result (HasStore D.size D.now D.image D.can_leave D.left_at self.new disk.new) }
+        ensures store { OnOk result (HasStore D.Disk self.new disk.new) }
         ensures kept { OnOk result ((since : ℕ) (base : Image) (found : Tables)
-            → KeepsRun D.tells D.size D.now D.image D.can_leave D.left_at since base found self.old disk.old
-            → KeepsRun D.tells D.size D.now D.image D.can_leave D.left_at since base found self.new disk.new) }
+            → KeepsRun D.tells D.Disk since base found self.old disk.old
+            → KeepsRun D.tells D.Disk since base found self.new disk.new) }
         ensures failed { OnErr result (Fails (running_of self.old) Plan.Rollback self.new.journal.items) }
         ensures given { OnErr result (self.new.given.items ≡ self.old.given.items) }
         ensures survives { OnErr result ((since : ℕ) (base : Image) (found : Tables)
-            → KeepsRun D.tells D.size D.now D.image D.can_leave D.left_at since base found self.old disk.old
+            → KeepsRun D.tells D.Disk since base found self.old disk.old
             → Survives D.now D.left_at since found (done_of self.new.journal.items) disk.new) }
         ensures out_of_blocks { result ≡ Err StoreFault.LogFull → (since : ℕ) (base : Image) (found : Tables)
-            → KeepsRun D.tells D.size D.now D.image D.can_leave D.left_at since base found self.old disk.old
-            → IsOutOfBlocks D.tells D.size D.now D.image D.can_leave D.left_at since base found (done_of self.new.journal.items) self.new.store disk.new }
+            → KeepsRun D.tells D.Disk since base found self.old disk.old
+            → IsOutOfBlocks D.tells D.Disk since base found (done_of self.new.journal.items) self.new.store disk.new }
         ensures later { D.now disk.old ≤ D.now disk.new }
         ensures counted { D.fault_count disk.old ≤ D.fault_count disk.new }
         ensures disk_fault { result ≡ Err StoreFault.Disk → Rose (D.fault_count disk.old) (D.fault_count disk.new) }
@@ -515,21 +515,21 @@ impl Runner {
     /// Runs the next statement, and gives its reply. Where it fails, no reply is given; where the disk fails at a commit, the
     /// journal has its entry, and a stop may leave it or not. For more statements than a `u32` counts memory is wanting.
     pub(crate) fn step<D: Disk>(&mut self, disk: &mut D, plan: Plan) -> Result<(), StoreFault>
-        requires store { HasStore D.size D.now D.image D.can_leave D.left_at self.old disk.old }
+        requires store { HasStore D.Disk self.old disk.old }
 
         ensures stepped { OnOk result (Steps (D.now disk.new) (running_of self.old) plan (running_of self.new)) }
-        ensures store { OnOk result (HasStore D.size D.now D.image D.can_leave D.left_at self.new disk.new) }
+        ensures store { OnOk result (HasStore D.Disk self.new disk.new) }
         ensures kept { OnOk result ((since : ℕ) (base : Image) (found : Tables)
-            → KeepsRun D.tells D.size D.now D.image D.can_leave D.left_at since base found self.old disk.old
-            → KeepsRun D.tells D.size D.now D.image D.can_leave D.left_at since base found self.new disk.new) }
+            → KeepsRun D.tells D.Disk since base found self.old disk.old
+            → KeepsRun D.tells D.Disk since base found self.new disk.new) }
         ensures failed { OnErr result (Fails (running_of self.old) plan self.new.journal.items) }
         ensures given { OnErr result (self.new.given.items ≡ self.old.given.items) }
         ensures survives { OnErr result ((since : ℕ) (base : Image) (found : Tables)
-            → KeepsRun D.tells D.size D.now D.image D.can_leave D.left_at since base found self.old disk.old
+            → KeepsRun D.tells D.Disk since base found self.old disk.old
             → Survives D.now D.left_at since found (done_of self.new.journal.items) disk.new) }
         ensures out_of_blocks { result ≡ Err StoreFault.LogFull → (since : ℕ) (base : Image) (found : Tables)
-            → KeepsRun D.tells D.size D.now D.image D.can_leave D.left_at since base found self.old disk.old
-            → IsOutOfBlocks D.tells D.size D.now D.image D.can_leave D.left_at since base found (done_of self.new.journal.items) self.new.store disk.new }
+            → KeepsRun D.tells D.Disk since base found self.old disk.old
+            → IsOutOfBlocks D.tells D.Disk since base found (done_of self.new.journal.items) self.new.store disk.new }
         ensures later { D.now disk.old ≤ D.now disk.new }
         ensures counted { D.fault_count disk.old ≤ D.fault_count disk.new }
         ensures disk_fault { result ≡ Err StoreFault.Disk → Rose (D.fault_count disk.old) (D.fault_count disk.new) }

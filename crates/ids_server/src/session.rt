@@ -77,24 +77,24 @@ fn run_one<D: Disk, K: Sink>(
     printer: &mut Printer<K>,
 ) -> Result<(), StoreFault>
     requires index { index < length (statements_in script.now 0 0) }
-    requires store { HasStore D.size D.now D.image D.can_leave D.left_at runner.old disk.old }
+    requires store { HasStore D.Disk runner.old disk.old }
 
     ensures stepped { OnOk result ((plan : Plan) × IsPlanOf (text_in script.now 0 0 index) plan × Steps (D.now disk.new) (running_of runner.old) plan (running_of runner.new)) }
     ensures printed { OnOk result ((last : Given) × (runner.new.given.items ≡ runner.old.given.items ++ last ∷ []) × PrinterPuts K.tells K.taken K.fault_count printer.old printer.new (given_text last)) }
-    ensures store { OnOk result (HasStore D.size D.now D.image D.can_leave D.left_at runner.new disk.new) }
+    ensures store { OnOk result (HasStore D.Disk runner.new disk.new) }
     ensures kept { OnOk result ((since : ℕ) (base : Image) (found : Tables)
-        → KeepsRun D.tells D.size D.now D.image D.can_leave D.left_at since base found runner.old disk.old
-        → KeepsRun D.tells D.size D.now D.image D.can_leave D.left_at since base found runner.new disk.new) }
+        → KeepsRun D.tells D.Disk since base found runner.old disk.old
+        → KeepsRun D.tells D.Disk since base found runner.new disk.new) }
     ensures failed { OnErr result ((runner.new.journal.items ≡ runner.old.journal.items)
         ⊎ ((plan : Plan) × IsPlanOf (text_in script.now 0 0 index) plan × Fails (running_of runner.old) plan runner.new.journal.items)) }
     ensures given { OnErr result (runner.new.given.items ≡ runner.old.given.items) }
     ensures printer { OnErr result (printer.new ≡ printer.old) }
     ensures survives { OnErr result ((since : ℕ) (base : Image) (found : Tables)
-        → KeepsRun D.tells D.size D.now D.image D.can_leave D.left_at since base found runner.old disk.old
+        → KeepsRun D.tells D.Disk since base found runner.old disk.old
         → Survives D.now D.left_at since found (done_of runner.new.journal.items) disk.new) }
     ensures out_of_blocks { result ≡ Err StoreFault.LogFull → (since : ℕ) (base : Image) (found : Tables)
-        → KeepsRun D.tells D.size D.now D.image D.can_leave D.left_at since base found runner.old disk.old
-        → IsOutOfBlocks D.tells D.size D.now D.image D.can_leave D.left_at since base found (done_of runner.new.journal.items) runner.new.store disk.new }
+        → KeepsRun D.tells D.Disk since base found runner.old disk.old
+        → IsOutOfBlocks D.tells D.Disk since base found (done_of runner.new.journal.items) runner.new.store disk.new }
     ensures later { D.now disk.old ≤ D.now disk.new }
     ensures counted { D.fault_count disk.old ≤ D.fault_count disk.new }
     ensures disk_fault { result ≡ Err StoreFault.Disk → Rose (D.fault_count disk.old) (D.fault_count disk.new) }
@@ -117,17 +117,17 @@ fn run_all<D: Disk, K: Sink>(
     printer: &mut Printer<K>,
 ) -> Status
     requires fresh { running_of runner.old ≡ record { tables = runner.old.store.tables; inside = None; journal = []; given = [] } }
-    requires store { HasStore D.size D.now D.image D.can_leave D.left_at runner.old disk.old }
+    requires store { HasStore D.Disk runner.old disk.old }
 
     ensures ran { (plans : Script) (bytes : List ℕ) → script.now ≡ texts_of bytes → IsScriptOf bytes plans → HasRun plans runner.old.store.tables result runner.new.journal.items runner.new.given.items }
     ensures survives { (since : ℕ) (base : Image) (found : Tables)
-        → KeepsRun D.tells D.size D.now D.image D.can_leave D.left_at since base found runner.old disk.old
+        → KeepsRun D.tells D.Disk since base found runner.old disk.old
         → Survives D.now D.left_at since found (done_of runner.new.journal.items) disk.new }
     ensures out_of_blocks { result ≡ Status.LogFull → (since : ℕ) (base : Image) (found : Tables)
-        → KeepsRun D.tells D.size D.now D.image D.can_leave D.left_at since base found runner.old disk.old
-        → IsOutOfBlocks D.tells D.size D.now D.image D.can_leave D.left_at since base found (done_of runner.new.journal.items) runner.new.store disk.new }
+        → KeepsRun D.tells D.Disk since base found runner.old disk.old
+        → IsOutOfBlocks D.tells D.Disk since base found (done_of runner.new.journal.items) runner.new.store disk.new }
     ensures at_end { result ≡ Status.Done → (since : ℕ) (base : Image) (found : Tables)
-        → KeepsRun D.tells D.size D.now D.image D.can_leave D.left_at since base found runner.old disk.old
+        → KeepsRun D.tells D.Disk since base found runner.old disk.old
         → (c : Image) → D.can_leave disk.new c → Recovers c (tables_from found (done_of runner.new.journal.items)) }
     ensures moments { HaveMoments (D.now disk.new) runner.new.journal.items }
     ensures printed { PrinterPuts K.tells K.taken K.fault_count printer.old printer.new (text runner.new.given.items) }
@@ -171,17 +171,17 @@ pub(crate) fn run<D: Disk, K: Sink>(
     printer: &mut Printer<K>,
 ) -> Status
     requires fresh { running_of runner.old ≡ record { tables = runner.old.store.tables; inside = None; journal = []; given = [] } }
-    requires store { HasStore D.size D.now D.image D.can_leave D.left_at runner.old disk.old }
+    requires store { HasStore D.Disk runner.old disk.old }
 
     ensures ran { (plans : Script) (bytes : List ℕ) → script.now ≡ texts_of bytes → IsScriptOf bytes plans → HasRun plans runner.old.store.tables result runner.new.journal.items runner.new.given.items }
     ensures survives { (since : ℕ) (base : Image) (found : Tables)
-        → KeepsRun D.tells D.size D.now D.image D.can_leave D.left_at since base found runner.old disk.old
+        → KeepsRun D.tells D.Disk since base found runner.old disk.old
         → Survives D.now D.left_at since found (done_of runner.new.journal.items) disk.new }
     ensures out_of_blocks { result ≡ Status.LogFull → (since : ℕ) (base : Image) (found : Tables)
-        → KeepsRun D.tells D.size D.now D.image D.can_leave D.left_at since base found runner.old disk.old
-        → IsOutOfBlocks D.tells D.size D.now D.image D.can_leave D.left_at since base found (done_of runner.new.journal.items) runner.new.store disk.new }
+        → KeepsRun D.tells D.Disk since base found runner.old disk.old
+        → IsOutOfBlocks D.tells D.Disk since base found (done_of runner.new.journal.items) runner.new.store disk.new }
     ensures at_end { result ≡ Status.Done → (since : ℕ) (base : Image) (found : Tables)
-        → KeepsRun D.tells D.size D.now D.image D.can_leave D.left_at since base found runner.old disk.old
+        → KeepsRun D.tells D.Disk since base found runner.old disk.old
         → (c : Image) → D.can_leave disk.new c → Recovers c (tables_from found (done_of runner.new.journal.items)) }
     ensures moments { HaveMoments (D.now disk.new) runner.new.journal.items }
     ensures printed { PrinterPuts K.tells K.taken K.fault_count printer.old printer.new (text runner.new.given.items) }

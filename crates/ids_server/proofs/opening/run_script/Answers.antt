@@ -25,11 +25,11 @@ pub returns-clause-ran : goal.returns-clause-ran
 returns-clause-ran g c = λ bytes is grammar.
     let runner = c.new-runner.result in
     let store = c.in-Ok.store in
-    let start = keeps_at_start g.D.Disk.tells g.D.Disk.size g.D.Disk.now g.D.Disk.image g.D.Disk.can_leave g.D.Disk.left_at runner store c.new-runner.ensures.running c.new-runner.ensures.store in (
+    let start = keeps_at_start g.D.Disk.tells g.D.Disk runner store c.new-runner.ensures.running c.new-runner.ensures.store in (
       store.tables,
       runs_shown g.D.Disk.tells g.D.Disk.now g.D.Disk.image g.D.Disk.can_leave g.D.Disk.left_at bytes store.tables c.args.disk.now c.run-status.new.disk c.run-status.result _ _ _ _
           c.into_parts-journal.ensures.journal c.into_parts-journal.ensures.given
-          (runs_over g.D.Disk.tells g.D.Disk.size g.D.Disk.now g.D.Disk.image g.D.Disk.can_leave g.D.Disk.left_at
+          (runs_over g.D.Disk.tells g.D.Disk
           (record { scripts = c.every_script_has_plans.ensures; covered = c.firsts_are_covered.ensures; leave = c.transactions_leave_tables.ensures }) g.met.D.Disk.left_tells
           bytes store c.args.disk.now c.from_disk.new.disk c.run-status.new.disk c.run-status.result c.run-status.new.runner.journal.items c.run-status.new.runner.given.items grammar
           (λ byte why told. absurd (sessions_read c.run-status.result c.run-status.ensures.own byte why told))
@@ -51,7 +51,7 @@ returns-clause-log_full g c = λ full told T recovers.
     let old = c.args.disk.now in
     let runner = c.new-runner.result in
     let store = c.in-Ok.store in
-    let start = keeps_at_start d.tells d.size d.now d.image d.can_leave d.left_at runner store c.new-runner.ensures.running c.new-runner.ensures.store in
+    let start = keeps_at_start d.tells d runner store c.new-runner.ensures.running c.new-runner.ensures.store in
     let since = d.now old + 1 in
     let found = c.in-Ok.ensures.kept T told recovers in
     let out = c.run-status.ensures.out_of_blocks full since (d.image old) store.tables

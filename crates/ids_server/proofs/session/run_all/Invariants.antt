@@ -14,9 +14,9 @@ use Rattle.ids_server.proofs.session.run_all.Given as goal
 abbrev pub invariant-loop-index : goal.invariant-loop-index
 invariant-loop-index g l = record {
   running : (plans : Script) (bytes : List ℕ) → l.script ≡ texts_of bytes → IsScriptOf bytes plans → IsRunning plans l.fn.runner.store.tables (g.D.Disk.now l.disk) (running_of l.runner);
-  store : HasStore g.D.Disk.size g.D.Disk.now g.D.Disk.image g.D.Disk.can_leave g.D.Disk.left_at l.runner l.disk;
-  kept : (since : ℕ) (base : Image) (found : Tables) → KeepsRun g.D.Disk.tells g.D.Disk.size g.D.Disk.now g.D.Disk.image g.D.Disk.can_leave g.D.Disk.left_at since base found l.fn.runner l.fn.disk
-      → KeepsRun g.D.Disk.tells g.D.Disk.size g.D.Disk.now g.D.Disk.image g.D.Disk.can_leave g.D.Disk.left_at since base found l.runner l.disk;
+  store : HasStore g.D.Disk l.runner l.disk;
+  kept : (since : ℕ) (base : Image) (found : Tables) → KeepsRun g.D.Disk.tells g.D.Disk since base found l.fn.runner l.fn.disk
+      → KeepsRun g.D.Disk.tells g.D.Disk since base found l.runner l.disk;
   moments : HaveMoments (g.D.Disk.now l.disk) l.runner.journal.items;
   count : length l.runner.given.items ≡ l.index;
   printed : PrinterPuts g.K.Sink.tells g.K.Sink.taken g.K.Sink.fault_count l.fn.printer l.printer (text l.runner.given.items);

@@ -17,6 +17,6 @@ pub returns-in_ok-commit_nothing-clause-kept : goal.returns-in_ok-commit_nothing
 returns-in_ok-commit_nothing-clause-kept g c = λ since base found keeps.
     let none : c.args.effects ≡ [] = search rules in
     let same = with_nothing c.transactions_join.ensures c.args.self.now.journal.items c.commit_nothing.new.self.journal.items c.args.done c.moment.result (ap (λ (r : Running). r.journal) c.in_ok-commit_nothing.ensures.ok) in
-    subst (λ s. KeepsStore g.D.Disk.tells g.D.Disk.size g.D.Disk.now g.D.Disk.image g.D.Disk.can_leave g.D.Disk.left_at since base found (done_of c.commit_nothing.new.self.journal.items) [] s c.args.disk.now) (sym c.commit_nothing.ensures.store)
-    (subst (λ (ds : List Done). KeepsStore g.D.Disk.tells g.D.Disk.size g.D.Disk.now g.D.Disk.image g.D.Disk.can_leave g.D.Disk.left_at since base found ds [] c.args.self.now.store c.args.disk.now) (sym same)
-    (subst (λ (es : List Effect). KeepsStore g.D.Disk.tells g.D.Disk.size g.D.Disk.now g.D.Disk.image g.D.Disk.can_leave g.D.Disk.left_at since base found (done_of c.args.self.now.journal.items) es c.args.self.now.store c.args.disk.now) none keeps))
+    subst (λ s. KeepsStore g.D.Disk.tells g.D.Disk since base found (done_of c.commit_nothing.new.self.journal.items) [] s c.args.disk.now) (sym c.commit_nothing.ensures.store)
+    (subst (λ (ds : List Done). KeepsStore g.D.Disk.tells g.D.Disk since base found ds [] c.args.self.now.store c.args.disk.now) (sym same)
+    (subst (λ (es : List Effect). KeepsStore g.D.Disk.tells g.D.Disk since base found (done_of c.args.self.now.journal.items) es c.args.self.now.store c.args.disk.now) none keeps))

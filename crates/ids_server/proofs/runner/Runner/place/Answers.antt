@@ -34,13 +34,13 @@ change-requires-clause-one g c =
 
 pub returns-then-len-ne1-clause-kept : goal.returns-then-len-ne1-clause-kept
 returns-then-len-ne1-clause-kept g c = λ since base found earlier so_far keeps.
-    subst (λ (es : List Effect). KeepsStore g.D.Disk.tells g.D.Disk.size g.D.Disk.now g.D.Disk.image g.D.Disk.can_leave g.D.Disk.left_at since base found earlier (so_far ++ es) c.take_rows.new.self.store c.take_rows.new.disk) c.as_slice.ensures
+    subst (λ (es : List Effect). KeepsStore g.D.Disk.tells g.D.Disk since base found earlier (so_far ++ es) c.take_rows.new.self.store c.take_rows.new.disk) c.as_slice.ensures
     (c.in_ok-take_rows.ensures.kept since base found earlier so_far keeps)
 
 pub returns-in-Done-clause-kept : goal.returns-in-Done-clause-kept
 returns-in-Done-clause-kept g c = λ since base found earlier so_far keeps.
     let only = alone c.in_ok-outcome.outcome.effects c.in-Some.effect.now (sym c.len.ensures ∙ c.if-len-ne1.false) (c.in-Some.ensures.value ∙ ap (λ (es : List Effect). slice_get es 0) c.as_slice-2.ensures) in
-    subst (λ (es : List Effect). KeepsStore g.D.Disk.tells g.D.Disk.size g.D.Disk.now g.D.Disk.image g.D.Disk.can_leave g.D.Disk.left_at since base found earlier (so_far ++ es) c.change.new.self c.change.new.disk) (sym only)
+    subst (λ (es : List Effect). KeepsStore g.D.Disk.tells g.D.Disk since base found earlier (so_far ++ es) c.change.new.self c.change.new.disk) (sym only)
     (on_done _ _ c.in-Done.is c.in_ok-change.ensures.done since base found earlier so_far keeps)
 
 pub returns-in-NoSpace-clause-outcome : goal.returns-in-NoSpace-clause-outcome
@@ -67,8 +67,8 @@ returns-in-NoSpace-clause-full g c = λ rows pages is.
 pub returns-in-NoSpace-clause-kept : goal.returns-in-NoSpace-clause-kept
 returns-in-NoSpace-clause-kept g c = λ since base found earlier so_far keeps.
     let same = on_no_space _ _ c.in-NoSpace.rows c.in-NoSpace.pages c.in-NoSpace.is c.in_ok-change.ensures.no_space in
-    subst (λ (es : List Effect). KeepsStore g.D.Disk.tells g.D.Disk.size g.D.Disk.now g.D.Disk.image g.D.Disk.can_leave g.D.Disk.left_at since base found earlier es c.change.new.self c.change.new.disk) (sym (ap (λ (es : List Effect). so_far ++ es) c.new.ensures ∙ append-nil so_far))
-    (subst (λ s. KeepsStore g.D.Disk.tells g.D.Disk.size g.D.Disk.now g.D.Disk.image g.D.Disk.can_leave g.D.Disk.left_at since base found earlier so_far s c.change.new.disk) (sym same.0) (subst (λ d. KeepsStore g.D.Disk.tells g.D.Disk.size g.D.Disk.now g.D.Disk.image g.D.Disk.can_leave g.D.Disk.left_at since base found earlier so_far c.args.self.now.store d) (sym same.1) keeps))
+    subst (λ (es : List Effect). KeepsStore g.D.Disk.tells g.D.Disk since base found earlier es c.change.new.self c.change.new.disk) (sym (ap (λ (es : List Effect). so_far ++ es) c.new.ensures ∙ append-nil so_far))
+    (subst (λ s. KeepsStore g.D.Disk.tells g.D.Disk since base found earlier so_far s c.change.new.disk) (sym same.0) (subst (λ d. KeepsStore g.D.Disk.tells g.D.Disk since base found earlier so_far c.args.self.now.store d) (sym same.1) keeps))
 
 pub returns-in_err-outcome-clause-survives : goal.returns-in_err-outcome-clause-survives
 returns-in_err-outcome-clause-survives g c = always_err c.from_residual.result (λ since base found earlier so_far keeps.

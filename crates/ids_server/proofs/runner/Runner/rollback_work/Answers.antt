@@ -25,9 +25,9 @@ returns-clause-kept g c = λ since base found keeps.
     let kept = c.in_ok-end.ensures.kept since base found keeps in
     let given = c.in_ok-give-2.ensures.ok in
     let last = c.give-2.new.self in
-    subst (λ s. KeepsStore g.D.Disk.tells g.D.Disk.size g.D.Disk.now g.D.Disk.image g.D.Disk.can_leave g.D.Disk.left_at since base found (done_of last.journal.items) (effects_of last.inside) s c.end.new.disk) (sym c.give-2.ensures.store)
-    (subst (λ (es : List Effect). KeepsStore g.D.Disk.tells g.D.Disk.size g.D.Disk.now g.D.Disk.image g.D.Disk.can_leave g.D.Disk.left_at since base found (done_of last.journal.items) es c.end.new.self.store c.end.new.disk) (sym (ap (λ (r : Running). effects_of r.inside) given))
-    (subst (λ (ds : List Done). KeepsStore g.D.Disk.tells g.D.Disk.size g.D.Disk.now g.D.Disk.image g.D.Disk.can_leave g.D.Disk.left_at since base found ds (effects_of c.end.new.self.inside) c.end.new.self.store c.end.new.disk) (sym (ap (λ (r : Running). done_of r.journal) given)) kept))
+    subst (λ s. KeepsStore g.D.Disk.tells g.D.Disk since base found (done_of last.journal.items) (effects_of last.inside) s c.end.new.disk) (sym c.give-2.ensures.store)
+    (subst (λ (es : List Effect). KeepsStore g.D.Disk.tells g.D.Disk since base found (done_of last.journal.items) es c.end.new.self.store c.end.new.disk) (sym (ap (λ (r : Running). effects_of r.inside) given))
+    (subst (λ (ds : List Done). KeepsStore g.D.Disk.tells g.D.Disk since base found ds (effects_of c.end.new.self.inside) c.end.new.self.store c.end.new.disk) (sym (ap (λ (r : Running). done_of r.journal) given)) kept))
 
 pub returns-in_err-end-clause-out_of_blocks : goal.returns-in_err-end-clause-out_of_blocks
 returns-in_err-end-clause-out_of_blocks g c = λ full since base found keeps.

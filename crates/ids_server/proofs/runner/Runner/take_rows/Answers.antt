@@ -60,7 +60,7 @@ returns-clause-kept g c = λ since base found earlier so_far keeps.
     let le : length c.args.gone.now ≤ c.loop-effect.effect-index = omega (arith, c.loop-effect-test.false) in
     let none : drop c.loop-effect.effect-index c.args.gone.now ≡ [] = drop_of_length-le c.args.gone.now le in
     let all : k.0 ≡ so_far ++ c.args.gone.now = sym (append-nil k.0) ∙ sym (ap (λ (es : List Effect). k.0 ++ es) none) ∙ k.1 in
-    subst (λ (es : List Effect). KeepsStore g.D.Disk.tells g.D.Disk.size g.D.Disk.now g.D.Disk.image g.D.Disk.can_leave g.D.Disk.left_at since base found earlier es c.loop-effect.self.store c.loop-effect.disk) all k.2
+    subst (λ (es : List Effect). KeepsStore g.D.Disk.tells g.D.Disk since base found earlier es c.loop-effect.self.store c.loop-effect.disk) all k.2
 
 pub returns-in_err-change-clause-out_of_blocks : goal.returns-in_err-change-clause-out_of_blocks
 returns-in_err-change-clause-out_of_blocks g c = λ full since base found earlier so_far keeps.

@@ -12,15 +12,15 @@ use Rattle.ids_server.proofs.runner.Runner.take_rows.Given as goal
 -- the effects so far were made, and those that are left can be
 abbrev pub invariant-loop-effect : goal.invariant-loop-effect
 invariant-loop-effect g l = record {
-  store : IsStore ⊥ g.D.Disk.size g.D.Disk.now g.D.Disk.image g.D.Disk.can_leave g.D.Disk.left_at l.self.store l.disk;
+  store : IsStore ⊥ g.D.Disk l.self.store l.disk;
   fits : Fits l.self.store.tables (drop l.effect-index l.gone);
   gone : AllByRecursion Goes (drop l.effect-index l.gone);
   tables : apply_all l.self.store.tables (drop l.effect-index l.gone) ≡ apply_all l.fn.self.store.tables l.gone;
   noted : l.self.store.undo ++ drop l.effect-index l.gone ≡ l.fn.self.store.undo ++ l.gone;
   kept : (since : ℕ) (base : Image) (found : Tables) (earlier : List Done) (so_far : List Effect)
-      → KeepsStore g.D.Disk.tells g.D.Disk.size g.D.Disk.now g.D.Disk.image g.D.Disk.can_leave g.D.Disk.left_at since base found earlier so_far l.fn.self.store l.fn.disk
+      → KeepsStore g.D.Disk.tells g.D.Disk since base found earlier so_far l.fn.self.store l.fn.disk
       → (made : List Effect) × (made ++ drop l.effect-index l.gone ≡ so_far ++ l.gone)
-      × KeepsStore g.D.Disk.tells g.D.Disk.size g.D.Disk.now g.D.Disk.image g.D.Disk.can_leave g.D.Disk.left_at since base found earlier made l.self.store l.disk;
+      × KeepsStore g.D.Disk.tells g.D.Disk since base found earlier made l.self.store l.disk;
   same : (l.self.inside ≡ l.fn.self.inside) × (l.self.journal ≡ l.fn.self.journal) × (l.self.given ≡ l.fn.self.given);
   later : g.D.Disk.now l.fn.disk ≤ g.D.Disk.now l.disk;
   counted : g.D.Disk.fault_count l.fn.disk ≤ g.D.Disk.fault_count l.disk;
