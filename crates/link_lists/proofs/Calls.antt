@@ -1,16 +1,16 @@
 -- What each call asks of the web, and what it leaves, in the words of its callers.
-use Rattle.std.proofs.Common.{◌≡◌, ◌≢◌, ◌∙◌, sym, ap, subst, refl, ℕ, zero, suc, ◌+◌, ◌<◌, ◌≤◌, ◌==◌, ◌↔◌, Bool, true, false, cond, ◌||◌, List, [], ◌∷◌, ◌++◌, length, ◌⊎◌, inl, inr, arith, nat_lt, Option, Some, None, IsSome, append-nil}
-use Rattle.std.proofs.lemmas.Bool.Decides.{leb_tells, nat_tests}
+use Rattle.std.proofs.Common.{◌≡◌, ◌≢◌, ◌∙◌, sym, ap, subst, refl, ℕ, ◌<◌, ◌≤◌, ◌↔◌, true, false, cond, List, [], ◌∷◌, ◌++◌, ◌⊎◌, inl, inr, arith, nat_lt, Option, Some, None, IsSome, append-nil}
+use Rattle.std.proofs.lemmas.Bool.Decides.{nat_tests}
 use Rattle.link_lists.specs.declared.web.Web.{Web}
 use Rattle.link_lists.specs.Places.{head_place, is_place, slot_of}
 use Rattle.link_lists.specs.Web.{next_of, prev_of, home_of, IsLinked, IsTakenOut, SameHome}
 use Rattle.link_lists.specs.Nodes.{node_at}
 use Rattle.link_lists.specs.Rings.{seen, lists_of, Linked, IsLinkedWell, Chain}
 use Rattle.link_lists.specs.Lists.{Lists, has, Once, list_at, home_at, list_count, id_count, ListBecomes, HomeBecomes, SameCounts, SameLists, put_before, without, first_of, behind, IsSound}
-use Rattle.link_lists.proofs.Members.{has-first, has-later, has-cons, has-both, has-right, has-left, has-middle, not-has, once-middle, once-left, parts-at, without-parts, put-parts, same_test, other_test}
+use Rattle.link_lists.proofs.Members.{has-first, has-later, has-cons, has-both, has-right, has-left, not-has, once-middle, parts-at, without-parts, put-parts, same_test, other_test}
 use Rattle.link_lists.proofs.Chains.{first_or, chain-left, chain-right, chain-last, chain-first, chain-same}
 use Rattle.link_lists.proofs.Seen.{walked, list-seen, home-seen, length-made, linked-well, list-becomes, home-becomes, same-size}
-use Rattle.link_lists.proofs.Steps.{id-low, ring-place, ring-once, free-apart, head-apart, put-linked, taken-linked, prev-ring, next-ring}
+use Rattle.link_lists.proofs.Steps.{id-low, ring-place, free-apart, put-linked, taken-linked}
 
 -- a list with its parts
 pub first-part : (b : ℕ) (xs : List ℕ) → ((q : ℕ) → has q xs ≡ true → q < 2147483648) → 2147483648 ≤ b → ((first_or b xs < 2147483648) × (first_of xs ≡ Some (first_or b xs))) ⊎ ((2147483648 ≤ first_or b xs) × (first_of xs ≡ None))

@@ -1,9 +1,9 @@
 -- Chains of links: their parts, and what is left of one where links are changed.
-use Rattle.std.proofs.Common.{◌≡◌, ◌≢◌, ◌∙◌, sym, ap, subst, refl, ℕ, zero, suc, ◌+◌, ◌<◌, ◌≤◌, ◌==◌, Bool, true, false, cond, ◌||◌, List, [], ◌∷◌, ◌++◌, length, ◌⊎◌, inl, inr, arith, nat_lt}
-use Rattle.std.proofs.lemmas.Bool.Decides.{eqb_tells, leb_tells, nat_tests}
+use Rattle.std.proofs.Common.{◌≡◌, ◌≢◌, ◌∙◌, sym, ap, subst, refl, ℕ, zero, suc, ◌<◌, ◌≤◌, true, false, cond, List, [], ◌∷◌, ◌++◌, length, arith, nat_lt}
+use Rattle.std.proofs.lemmas.Bool.Decides.{nat_tests}
 use Rattle.link_lists.specs.Rings.{Chain, walk}
 use Rattle.link_lists.specs.Lists.{has, Once}
-use Rattle.link_lists.proofs.Members.{has-first, has-later, has-cons, has-both, has-right}
+use Rattle.link_lists.proofs.Members.{has-first, has-later, has-both}
 
 -- the first of a list, or b
 abbrev pub first_or : ℕ → List ℕ → ℕ

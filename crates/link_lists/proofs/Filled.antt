@@ -1,5 +1,5 @@
 -- A slab whose room is full.
-use Rattle.std.proofs.Common.{◌≡◌, ℕ, zero, suc, ◌+◌, ◌<◌, ◌≤◌, List, [], ◌∷◌, length, Option, Some, None, is_some, IsSome, count_by, cond, slice_index_or, arith, refl}
+use Rattle.std.proofs.Common.{ℕ, zero, suc, ◌<◌, ◌≤◌, List, [], ◌∷◌, length, Option, Some, None, is_some, IsSome, count_by, cond, slice_index_or, arith, refl}
 use Rattle.std.proofs.lemmas.List.Sums.{sum_by-cons}
 
 module _ {T : Type 0} where

@@ -1,12 +1,12 @@
 -- The lists that a web is seen as.
-use Rattle.std.proofs.Common.{◌≡◌, ◌≢◌, ◌∙◌, sym, ap, subst, refl, ℕ, zero, suc, ◌+◌, ◌<◌, ◌≤◌, ◌==◌, Bool, true, false, cond, ◌||◌, List, [], ◌∷◌, ◌++◌, length, ◌⊎◌, inl, inr, arith, nat_lt, slice_index_or, Option, Some, None}
+use Rattle.std.proofs.Common.{◌≡◌, ◌≢◌, ◌∙◌, sym, ap, subst, refl, ℕ, zero, suc, ◌≤◌, ◌==◌, Bool, true, false, cond, List, [], ◌∷◌, length, inl, inr, arith, nat_lt, slice_index_or, Option, None}
 use Rattle.std.proofs.lemmas.Bool.Decides.{eqb_tells, leb_tells, nat_tests}
 use Rattle.link_lists.specs.declared.web.Web.{Web}
 use Rattle.link_lists.specs.Places.{head_place}
 use Rattle.link_lists.specs.Web.{next_of, prev_of, home_of}
-use Rattle.link_lists.specs.Lists.{Lists, list_at, home_at, list_count, id_count, ListBecomes, HomeBecomes, SameCounts as SameSize}
-use Rattle.link_lists.specs.Rings.{Chain, walk, made, lists_of, seen, Linked, IsLinkedWell}
-use Rattle.link_lists.specs.Lists.{has, Once}
+use Rattle.link_lists.specs.Lists.{list_at, home_at, ListBecomes, HomeBecomes, SameCounts as SameSize}
+use Rattle.link_lists.specs.Rings.{walk, made, lists_of, seen, Linked, IsLinkedWell}
+use Rattle.link_lists.specs.Lists.{has}
 use Rattle.link_lists.proofs.Members.{has-first, once-few, same_test, other_test}
 use Rattle.link_lists.proofs.Chains.{walk-is}
 

@@ -1,6 +1,6 @@
 -- Linking an id into a list and taking one out keep the web linked to its lists.
-use Rattle.std.proofs.Common.{◌≡◌, ◌≢◌, ◌∙◌, sym, ap, subst, refl, ℕ, zero, suc, ◌+◌, ◌<◌, ◌≤◌, ◌==◌, Bool, true, false, cond, ◌||◌, ◌&&◌, List, [], ◌∷◌, ◌++◌, length, ◌⊎◌, inl, inr, arith, nat_lt, Option, Some, None}
-use Rattle.std.proofs.lemmas.Bool.Decides.{eqb_tells, leb_tells, nat_tests}
+use Rattle.std.proofs.Common.{◌≡◌, ◌≢◌, ◌∙◌, sym, ap, subst, refl, ℕ, ◌<◌, true, false, List, [], ◌∷◌, ◌++◌, inl, inr, arith, Some, None}
+use Rattle.std.proofs.lemmas.Bool.Decides.{eqb_tells, nat_tests}
 use Rattle.link_lists.specs.declared.web.Web.{Web}
 use Rattle.link_lists.specs.Places.{head_place, is_place}
 use Rattle.link_lists.specs.Web.{next_of, prev_of, home_of, IsLinked, IsTakenOut}

@@ -1,5 +1,5 @@
 -- Nodes in the slab.
-use Rattle.std.specs.Prelude.{ℕ, ◌<◌, Option, Some, None, IsSome, unwrap_or}
+use Rattle.std.specs.Prelude.{ℕ, ◌<◌, None, unwrap_or}
 use Rattle.slab.specs.Slab.{Slab, get, ContainsKey}
 use Rattle.link_lists.specs.declared.web.Node.{Node}
 

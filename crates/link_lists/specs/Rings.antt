@@ -1,5 +1,5 @@
 -- Each list is a ring of links from its head through its ids and back.
-use Rattle.std.specs.Prelude.{◌≡◌, ℕ, zero, suc, ◌+◌, ◌<◌, ◌≤◌, ◌==◌, Bool, true, false, cond, nat_lt, List, [], ◌∷◌, Option, Some, None}
+use Rattle.std.specs.Prelude.{◌≡◌, ℕ, zero, suc, ◌<◌, ◌≤◌, true, cond, nat_lt, List, [], ◌∷◌, Some}
 use Rattle.link_lists.specs.declared.web.Web.{Web}
 use Rattle.link_lists.specs.Places.{head_place}
 use Rattle.link_lists.specs.Web.{next_of, prev_of, home_of}

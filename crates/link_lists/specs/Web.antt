@@ -1,8 +1,7 @@
 -- The links of all nodes, by place.
-use Rattle.std.specs.Prelude.{◌≡◌, ◌≢◌, ℕ, ◌+◌, ◌<◌, Option, Some, None, cond, nat_lt}
-use Rattle.link_lists.specs.declared.web.Node.{Node}
+use Rattle.std.specs.Prelude.{◌≡◌, ◌≢◌, ℕ, Option, Some, None, cond, nat_lt}
 use Rattle.link_lists.specs.declared.web.Web.{Web}
-use Rattle.link_lists.specs.Places.{slot_of, is_place, head_place}
+use Rattle.link_lists.specs.Places.{slot_of, is_place}
 use Rattle.link_lists.specs.Nodes.{node_at}
 
 -- the place behind a place

@@ -1,6 +1,5 @@
 -- The least name with an entry, along the entries.
-use Rattle.std.proofs.Common.{◌≡◌, ◌≢◌, ◌∙◌, sym, ap, subst, refl, ℕ, ◌+◌, ◌<◌, ◌==◌, Bool, true, false, cond, List, ◌∷◌, ◌++◌, length, length-append, Option, Some, None, inl, inr, arith, nat_eq}
-use Rattle.std.specs.List.{filter}
+use Rattle.std.proofs.Common.{◌≡◌, ◌≢◌, ◌∙◌, sym, ap, subst, refl, ℕ, ◌+◌, ◌<◌, ◌==◌, Bool, true, false, cond, List, ◌∷◌, length, length-append, Option, Some, None, inl, inr, arith, nat_eq}
 use Rattle.std.specs.Option.{option_eq}
 use Rattle.std.specs.Ordering.{is_lt, ordering_reverse}
 use Rattle.std.specs.declared.cmp.Ordering.{Ordering}
@@ -13,10 +12,10 @@ use Rattle.ids_base.specs.declared.lock.LockEntry.{LockEntry}
 use Rattle.ids_base.specs.declared.lock.LockName.{LockName}
 use Rattle.link_lists.specs.Lists.{has, list_at, home_at}
 use Rattle.lock_table.specs.declared.book.Book.{Book}
-use Rattle.lock_table.specs.Book.{in_list, name_in, table_of}
+use Rattle.lock_table.specs.Book.{name_in, table_of}
 use Rattle.lock_table.specs.Buckets.{bucket_of}
-use Rattle.lock_table.specs.Chains.{entry_of, entries_of, is_named}
-use Rattle.lock_table.specs.Table.{HasEntry, IsAmong, holders, queue}
+use Rattle.lock_table.specs.Chains.{entry_of, is_named}
+use Rattle.lock_table.specs.Table.{HasEntry, IsAmong}
 use Rattle.lock_table.specs.Order.{name_cmp, is_before, is_behind, lesser, nearer, IsNextName, IsLastName}
 use Rattle.lock_table.proofs.Names.{names-told}
 use Rattle.lock_table.proofs.Filters.{among-passing, none-named, not-true, named-self}

@@ -1,6 +1,6 @@
 -- Lines that lose waiters and give them locks: what was before stays, and who has its lock waits no more.
-use Rattle.std.proofs.Common.{◌≡◌, ◌≢◌, ◌∙◌, sym, ap, subst, refl, ℕ, zero, suc, Bool, true, false, cond, ◌||◌, not, List, [], ◌∷◌, ◌++◌, length, Option, Some, None, ◌⊎◌, inl, inr, arith}
-use Rattle.std.specs.List.{Contains, filter, list_any}
+use Rattle.std.proofs.Common.{◌≡◌, ◌∙◌, sym, ap, subst, refl, ℕ, zero, suc, Bool, true, false, cond, ◌||◌, not, List, [], ◌∷◌, ◌++◌, length, Option, Some, None, ◌⊎◌, inl, inr, arith}
+use Rattle.std.specs.List.{Contains, filter}
 use Rattle.std.specs.Option.{option_map_or}
 use Rattle.std.proofs.lemmas.List.Elements.{Contains-append_left, Contains-append_right, Contains-append_cases}
 use Rattle.std.proofs.lemmas.Bool.Decides.{Decides-eqb}
@@ -8,7 +8,7 @@ use Rattle.ids_base.specs.declared.lock.LockEntry.{LockEntry}
 use Rattle.ids_base.specs.declared.lock.LockName.{LockName}
 use Rattle.lock_table.specs.Table.{Table, Line, Place, line, holders, queue, is_of, has_thread, first_free, without_thread, with_grant, grant_up_to, settled, Becomes, WaitsNowhere}
 use Rattle.lock_table.specs.Requests.{unqueued, unheld, taken, withdrawn, released, all_released}
-use Rattle.lock_table.specs.Sound.{Apart, same_thread, IsLoose, IsSettled, IsSound}
+use Rattle.lock_table.specs.Sound.{Apart, same_thread, IsLoose, IsSound}
 use Rattle.lock_table.proofs.Filters.{apart-right}
 use Rattle.lock_table.proofs.Grants.{same-name-or}
 use Rattle.lock_table.proofs.Names.{thread-turned}

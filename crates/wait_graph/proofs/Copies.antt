@@ -1,5 +1,5 @@
 -- A request put into a copy of its queue.
-use Rattle.std.proofs.Common.{◌≡◌, ◌∙◌, ap, refl, ℕ, suc, ◌+◌, ◌≤◌, Bool, true, false, cond, List, [], ◌∷◌, length, insert, arith}
+use Rattle.std.proofs.Common.{◌≡◌, ap, refl, ◌≤◌, Bool, true, false, cond, List, [], ◌∷◌, length, insert, arith}
 use Rattle.ids_base.specs.declared.lock.LockEntry.{LockEntry}
 use Rattle.lock_table.specs.Requests.{put_first, up_to}
 

@@ -1,10 +1,10 @@
 -- The laws: what keeps the table without circles.
-use Rattle.std.proofs.Common.{◌≡◌, ◌∙◌, sym, ap, subst, refl, ℕ, List, [], ◌∷◌, ◌++◌}
+use Rattle.std.proofs.Common.{◌≡◌, ◌∙◌, sym, ap, subst, refl, List, [], ◌∷◌, ◌++◌}
 use Rattle.std.specs.List.{filter}
 use Rattle.ids_base.specs.declared.lock.LockEntry.{LockEntry}
 use Rattle.lock_table.specs.Chains.{is_named}
-use Rattle.lock_table.specs.Table.{Table, line, queue}
-use Rattle.lock_table.specs.Requests.{wanted, taken, queued, withdrawn, released, all_released}
+use Rattle.lock_table.specs.Table.{line, queue}
+use Rattle.lock_table.specs.Requests.{wanted, taken, withdrawn, released}
 use Rattle.wait_graph.specs.Laws.{HasNoCycle, EmptyHasNoCycle, UnchangedKeepsNoCycle, GrantKeepsNoCycle, WaitKeepsNoCycle, WithdrawKeepsNoCycle, ReleaseKeepsNoCycle, ReleaseAllKeepsNoCycle, TellKeepsNoCycle}
 use Rattle.wait_graph.specs.Queued.{WaitsSomewhere}
 use Rattle.wait_graph.proofs.Calm.{IsCalmer, calm-taken, calm-withdrawn, calm-released, calm-all_released, calm-becomes, calm-keeps}

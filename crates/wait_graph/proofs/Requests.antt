@@ -10,7 +10,7 @@ use Rattle.wait_graph.specs.Cycles.{IsCycle}
 use Rattle.wait_graph.specs.declared.asked.Asked.{Asked}
 use Rattle.wait_graph.specs.Queued.{IsAsked, WaitsSomewhere, ClosesCycle, queue_with}
 use Rattle.wait_graph.specs.Search.{Waits}
-use Rattle.wait_graph.specs.Targets.{next, queue_at}
+use Rattle.wait_graph.specs.Targets.{next}
 use Rattle.wait_graph.proofs.Edges.{edge-from, edge-to, as-asked, from-asked, cycle-mapped}
 
 module _ (t : Table) (asked : Asked) (thread : ℕ) (name : LockName) (mode : LockMode) (starts : asked.start ≡ thread) (named : asked.name ≡ name) (filled : asked.queue.items ≡ (queued (line t name) (wanted (line t name) thread name mode)).queue) where

@@ -1,7 +1,7 @@
 -- Circles turned, and circles of edges that go on.
-use Rattle.std.proofs.Common.{◌≡◌, ◌∙◌, sym, ap, subst, refl, ℕ, false, List, [], ◌∷◌, ◌++◌, append_assoc, append-nil, inl, inr}
+use Rattle.std.proofs.Common.{◌≡◌, ◌∙◌, sym, subst, refl, ℕ, List, [], ◌∷◌, ◌++◌, append-nil, inl, inr}
 use Rattle.ids_base.specs.Waits.{WaitInTurn}
-use Rattle.link_lists.specs.Lists.{Once, has}
+use Rattle.link_lists.specs.Lists.{Once}
 use Rattle.link_lists.proofs.Members.{has-append, has-left, has-right, once-put, not-has, has-both}
 use Rattle.wait_graph.specs.Cycles.{IsCycle}
 

@@ -1,22 +1,20 @@
 -- A request that waits: each new edge has its thread at one end.
-use Rattle.std.proofs.Common.{◌≡◌, ◌≢◌, ◌∙◌, sym, ap, subst, refl, ℕ, ◌==◌, Bool, true, false, cond, List, [], ◌∷◌, ◌++◌, ◌⊎◌, inl, inr}
+use Rattle.std.proofs.Common.{◌≡◌, ◌≢◌, ◌∙◌, sym, ap, subst, refl, ℕ, Bool, true, false, cond, List, [], ◌∷◌, ◌++◌, ◌⊎◌, inl, inr}
 use Rattle.std.specs.List.{Contains}
 use Rattle.std.proofs.lemmas.List.Elements.{Contains-append_left, Contains-append_right, Contains-append_cases}
-use Rattle.std.proofs.lemmas.Bool.Decides.{eqb_tells}
 use Rattle.ids_base.specs.declared.lock.LockEntry.{LockEntry}
-use Rattle.ids_base.specs.declared.lock.LockMode.{LockMode}
 use Rattle.ids_base.specs.declared.lock.LockName.{LockName}
 use Rattle.ids_base.specs.LockNames.{is_same_name}
 use Rattle.ids_base.specs.Waits.{WaitsFor, WaitInTurn}
 use Rattle.link_lists.specs.Lists.{has}
 use Rattle.link_lists.proofs.Members.{has-first, has-later, parts-at}
 use Rattle.lock_table.specs.Table.{Table, Line, line, holders, queue, Becomes}
-use Rattle.lock_table.specs.Requests.{wanted, queued, put_first, is_overtaken}
+use Rattle.lock_table.specs.Requests.{queued, put_first, is_overtaken}
 use Rattle.lock_table.proofs.Grants.{same-name-or}
 use Rattle.wait_graph.specs.Cycles.{IsCycle}
 use Rattle.wait_graph.specs.Laws.{HasNoCycle}
-use Rattle.wait_graph.specs.Queued.{WaitsSomewhere, ClosesCycle, queue_with}
-use Rattle.wait_graph.proofs.Calm.{StandsBehind, first-or, is-first, is-later}
+use Rattle.wait_graph.specs.Queued.{WaitsSomewhere, queue_with}
+use Rattle.wait_graph.proofs.Calm.{first-or, is-first, is-later}
 use Rattle.wait_graph.proofs.Edges.{cycle-mapped}
 use Rattle.wait_graph.proofs.Named.{names-told}
 use Rattle.wait_graph.proofs.Turning.{turned}

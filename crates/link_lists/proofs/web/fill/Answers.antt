@@ -1,4 +1,4 @@
-use Rattle.std.proofs.Common.{◌≡◌, ◌∙◌, ◌≤◌, ◌<◌, arith}
+use Rattle.std.proofs.Common.{arith}
 use Rattle.link_lists.proofs.Filled.{all-filled}
 use Rattle.link_lists.proofs.web.fill.Goals as goal
 

@@ -1,4 +1,4 @@
-use Rattle.std.proofs.Common.{◌≡◌, ◌∙◌, ◌<◌, ◌≤◌, ◌+◌, ap, sym, arith, length, count_by, refl, ◌∷◌, []}
+use Rattle.std.proofs.Common.{◌∙◌, ◌<◌, ap, arith, length, count_by}
 use Rattle.link_lists.specs.Lists.{list_at, id_count}
 use Rattle.lock_table.specs.Chains.{entries_of, entry_of, since}
 use Rattle.lock_table.specs.Table.{is_of}

@@ -1,7 +1,7 @@
-use Rattle.std.proofs.Common.{◌≡◌, ◌∙◌, ◌<◌, ap, sym, subst, arith, length, refl, Some, None, true}
-use Rattle.link_lists.specs.Lists.{list_at, id_count}
+use Rattle.std.proofs.Common.{◌≡◌, ◌∙◌, ◌<◌, ap, sym, subst, arith, length, refl, true}
+use Rattle.link_lists.specs.Lists.{id_count}
 use Rattle.lock_table.specs.Chains.{is_named, entry_of, named_since, IsAlong}
-use Rattle.lock_table.proofs.Walks.{along-next, along-none, since-next, named-skip, named-none}
+use Rattle.lock_table.proofs.Walks.{along-next, since-next, named-skip}
 use Rattle.lock_table.proofs.chains.named_from.Goals as goal
 
 pub loop-at-init : goal.loop-at-init

@@ -1,4 +1,4 @@
-use Rattle.std.proofs.Common.{◌≡◌, ◌∙◌, ◌-◌, ◌+◌, ◌<◌, ℕ, suc, sym, ap, refl, arith, List, [], ◌∷◌, Option, Some, None, slice_get}
+use Rattle.std.proofs.Common.{◌≡◌, ◌∙◌, ◌-◌, ◌+◌, ◌<◌, ℕ, suc, sym, ap, arith, List, ◌∷◌, Option, Some, None, slice_get}
 use Rattle.std.specs.Iterator.{YieldsFirst}
 use Rattle.lock_table.proofs.entries.at.Goals as goal
 

@@ -1,7 +1,7 @@
-use Rattle.std.proofs.Common.{◌≡◌, ◌∙◌, ◌≤◌, ◌+◌, ◌∷◌, sym, ap, subst, arith, length, false, true, not, is_some}
+use Rattle.std.proofs.Common.{◌≡◌, ◌∙◌, sym, ap, arith, length, false, not, is_some}
 use Rattle.lock_table.specs.Book.{table_of}
 use Rattle.lock_table.specs.Chains.{is_named}
-use Rattle.lock_table.specs.Table.{holders, queue, has_thread}
+use Rattle.lock_table.specs.Table.{holders}
 use Rattle.lock_table.specs.Requests.{is_overtaken, up_to}
 use Rattle.lock_table.proofs.Searching.{length-dropped, up-next, up-stop, mode-is, over-none, not-over-new, not-over-held}
 use Rattle.lock_table.proofs.entries.place_of.Goals as goal

@@ -1,7 +1,7 @@
 use Rattle.std.proofs.Common.{◌∙◌, ap, sym, arith, length}
 use Rattle.std.specs.List.{filter}
 use Rattle.link_lists.specs.Lists.{list_at}
-use Rattle.lock_table.specs.Chains.{entries_of, is_named, since, named_since}
+use Rattle.lock_table.specs.Chains.{entries_of, is_named, named_since}
 use Rattle.lock_table.proofs.Keeping.{name_list-below}
 use Rattle.lock_table.proofs.Walks.{along-front, since-first}
 use Rattle.lock_table.proofs.Lines.{side-is}

@@ -1,4 +1,4 @@
-use Rattle.std.proofs.Common.{◌≡◌, ◌∙◌, ◌≤◌, ap, arith, length, insert, vec_len}
+use Rattle.std.proofs.Common.{◌≡◌, ◌∙◌, ap, arith, length, insert, vec_len}
 use Rattle.lock_table.specs.Table.{line, holders, queue}
 use Rattle.lock_table.specs.Requests.{wanted, is_overtaken, up_to}
 use Rattle.wait_graph.proofs.Copies.{put-at, up-within}

@@ -1,4 +1,4 @@
-use Rattle.std.proofs.Common.{◌∙◌, Ok, ap, arith}
+use Rattle.std.proofs.Common.{Ok, ap, arith}
 use Rattle.wait_graph.proofs.Places.{at-read}
 use Rattle.wait_graph.proofs.Scans.{against-next}
 use Rattle.wait_graph.proofs.Trees.{longer-then}

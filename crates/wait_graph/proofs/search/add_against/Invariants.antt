@@ -1,4 +1,3 @@
-use Rattle.std.proofs.Common.{◌≡◌, ◌≤◌, length}
 use Rattle.wait_graph.specs.Reached.{AgainstFound}
 use Rattle.wait_graph.specs.Search.{IsTree, IsLonger}
 use Rattle.wait_graph.specs.Targets.{next}

@@ -1,4 +1,4 @@
-use Rattle.std.proofs.Common.{◌≡◌, ◌∙◌, ◌<◌, ◌+◌, ℕ, sym, ap, subst, length, arith, inl, inr, true, Ok, List}
+use Rattle.std.proofs.Common.{◌≡◌, ◌<◌, ◌+◌, ℕ, sym, ap, subst, length, arith, inl, inr, true, Ok, List}
 use Rattle.std.proofs.lemmas.Bool.Decides.{eqb_tells}
 use Rattle.wait_graph.specs.Targets.{next as next_of, among}
 use Rattle.wait_graph.specs.Search.{IsClosedAt, IsLonger}

@@ -1,4 +1,4 @@
-use Rattle.std.proofs.Common.{◌≡◌, ℕ, ◌<◌, ◌≤◌, ◌+◌, ◌-◌, length}
+use Rattle.std.proofs.Common.{ℕ, ◌<◌, ◌≤◌, ◌-◌, length}
 use Rattle.wait_graph.specs.Targets.{next}
 use Rattle.wait_graph.specs.Reached.{HasLines, AreScanned}
 use Rattle.wait_graph.specs.Search.{IsTree, IsClosedAt}

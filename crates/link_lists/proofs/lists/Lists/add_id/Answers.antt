@@ -1,7 +1,5 @@
-use Rattle.std.proofs.Common.{◌≡◌, ◌∙◌, ℕ, ◌+◌, ◌≤◌, ◌<◌, ap, sym, refl, arith, Result, Ok, Err, OnOk, OnErr, IfOk}
-use Rattle.link_lists.specs.Rings.{seen, lists_of}
+use Rattle.std.proofs.Common.{◌≡◌, ◌∙◌, ℕ, ◌+◌, ◌≤◌, ◌<◌, sym, refl, arith, Result, Ok, Err, OnOk, OnErr, IfOk}
 use Rattle.link_lists.specs.Web.{home_of}
-use Rattle.link_lists.specs.Lists.{id_count}
 use Rattle.link_lists.proofs.Seen.{length-made}
 use Rattle.link_lists.proofs.Calls.{is-sound, ids-are, grown-well, grown-lists, grown-homes, grown-count}
 use Rattle.link_lists.proofs.lists.Lists.add_id.Goals as goal

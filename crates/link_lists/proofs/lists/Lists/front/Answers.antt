@@ -1,6 +1,4 @@
-use Rattle.std.proofs.Common.{◌≡◌, ◌∙◌, ap, Some, sym, arith, subst, ◌<◌, inl, inr}
-use Rattle.link_lists.specs.Places.{head_place}
-use Rattle.link_lists.specs.Web.{next_of}
+use Rattle.std.proofs.Common.{◌∙◌, ap, Some, sym, arith, inl, inr}
 use Rattle.link_lists.proofs.Calls.{low-list, head-is-place, front-is, is-sound}
 use Rattle.link_lists.proofs.lists.Lists.front.Goals as goal
 

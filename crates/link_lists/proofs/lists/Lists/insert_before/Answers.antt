@@ -1,4 +1,4 @@
-use Rattle.std.proofs.Common.{refl, ◌≡◌, ◌∙◌, ap, Some, None, sym, subst, IsSome}
+use Rattle.std.proofs.Common.{refl, ◌≡◌, ◌∙◌, None, sym, subst}
 use Rattle.link_lists.specs.Lists.{home_at, list_at, put_before, ListBecomes, HomeBecomes}
 use Rattle.link_lists.specs.Rings.{seen}
 use Rattle.link_lists.proofs.Calls.{is-sound, known, at-home, home-is, before-asks, before-leaves}

@@ -1,4 +1,4 @@
-use Rattle.std.proofs.Common.{◌≡◌, ◌∙◌, sym, arith}
+use Rattle.std.proofs.Common.{◌∙◌, sym, arith}
 use Rattle.link_lists.proofs.lists.Lists.move_to_back.Goals as goal
 
 pub push_back-requires-clause-list : goal.push_back-requires-clause-list

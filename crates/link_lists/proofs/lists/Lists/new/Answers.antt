@@ -1,4 +1,4 @@
-use Rattle.std.proofs.Common.{◌≡◌, ◌∙◌, sym, refl, arith}
+use Rattle.std.proofs.Common.{◌∙◌, refl, arith}
 use Rattle.link_lists.specs.Rings.{lists_of}
 use Rattle.link_lists.proofs.Seen.{length-made, linked-well}
 use Rattle.link_lists.proofs.Calls.{is-sound, empty-linked, empty-list}

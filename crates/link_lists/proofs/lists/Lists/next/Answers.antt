@@ -1,4 +1,4 @@
-use Rattle.std.proofs.Common.{◌≡◌, ◌∙◌, ap, Some, sym, arith, inl, inr}
+use Rattle.std.proofs.Common.{◌∙◌, ap, Some, sym, arith, inl, inr}
 use Rattle.link_lists.specs.Lists.{home_at}
 use Rattle.link_lists.proofs.Calls.{known, at-home, id-is-place, behind-is}
 use Rattle.link_lists.proofs.lists.Lists.next.Goals as goal

@@ -1,6 +1,6 @@
-use Rattle.std.proofs.Common.{◌≡◌, ◌∙◌, ap, sym, subst, ℕ, List, [], ◌∷◌, Option, Some, true, IsSome, refl}
+use Rattle.std.proofs.Common.{◌≡◌, ap, sym, subst, ℕ, List, [], ◌∷◌, Some, true}
 use Rattle.std.specs.Option.{is_some}
-use Rattle.link_lists.specs.Lists.{list_at, home_at, first_of, has, ListBecomes, without}
+use Rattle.link_lists.specs.Lists.{list_at, first_of, has, ListBecomes, without}
 use Rattle.link_lists.proofs.Members.{has-first}
 use Rattle.link_lists.proofs.lists.Lists.pop_front.Goals as goal
 

@@ -1,8 +1,7 @@
-use Rattle.std.proofs.Common.{◌≡◌, ◌∙◌, ◌≤◌, ◌<◌, ◌+◌, subst, sym, ap, arith, length, count_by, refl}
-use Rattle.lock_table.specs.Book.{in_list, table_of}
+use Rattle.std.proofs.Common.{◌∙◌, ap, arith, count_by}
+use Rattle.lock_table.specs.Book.{in_list}
 use Rattle.lock_table.specs.Chains.{entries_of}
 use Rattle.link_lists.specs.Lists.{list_at}
-use Rattle.lock_table.specs.Kept.{joined}
 use Rattle.lock_table.specs.Table.{is_of}
 use Rattle.lock_table.proofs.Counts.{count-more, count-within}
 use Rattle.lock_table.proofs.book.Book.lock_count.Goals as goal

@@ -1,4 +1,4 @@
-use Rattle.std.proofs.Common.{◌≡◌, ◌∙◌, ◌≤◌, ◌+◌, subst, sym, arith, Option}
+use Rattle.std.proofs.Common.{◌≡◌, ◌∙◌, ◌+◌, subst, sym, arith, Option}
 use Rattle.ids_base.specs.declared.lock.LockName.{LockName}
 use Rattle.lock_table.proofs.Ordered.{IsBest, best-start, best-unused, best-used, best-is, best-none}
 use Rattle.lock_table.proofs.book.Book.name_after.Goals as goal

@@ -1,5 +1,4 @@
-use Rattle.std.proofs.Common.{◌≡◌, ◌∙◌, ◌∷◌, ap, sym, subst, arith, length, Some}
-use Rattle.lock_table.specs.Chains.{IsAlong, entry_of, named_since, since, is_named}
+use Rattle.std.proofs.Common.{◌∙◌, ap, sym, arith, length}
 use Rattle.lock_table.proofs.Walks.{along-next, since-next, named-take}
 use Rattle.lock_table.proofs.entries.EntriesIterator.next.Goals as goal
 
