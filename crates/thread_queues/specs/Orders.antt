@@ -1,5 +1,5 @@
 -- In which orders threads are told.
-use Rattle.std.specs.Prelude.{Bool, true, not, if◌then◌else◌, nat_lt, Option, Some, None, List, [], ◌∷◌}
+use Rattle.std.specs.Prelude.{Bool, true, if◌then◌else◌, nat_lt, Option, Some, None, List, [], ◌∷◌}
 use Rattle.thread_queues.specs.declared.event.Event.{Event}
 use Rattle.thread_queues.specs.declared.event.Waiter.{Waiter}
 use Rattle.thread_queues.specs.declared.order.Order.{Order}

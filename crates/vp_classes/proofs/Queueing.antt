@@ -1,5 +1,5 @@
 -- Queues and marks, where one request is asked for or taken.
-use Rattle.std.proofs.Common.{◌≡◌, ◌≢◌, ◌⊎◌, ℕ, zero, suc, ◌+◌, ◌-◌, ◌<◌, ◌≤◌, List, [], ◌∷◌, ◌++◌, length, get_or, drop, Bool, true, false, ◌&&◌, ◌||◌, cond, eqb, refl, ap, sym, subst, ◌∙◌, arith, inl, inr, Option, Some, None, MatchOption, length-append, replicate}
+use Rattle.std.proofs.Common.{◌≡◌, ℕ, zero, suc, ◌+◌, ◌<◌, ◌≤◌, List, [], ◌∷◌, ◌++◌, length, get_or, drop, Bool, true, false, ◌&&◌, ◌||◌, cond, refl, ap, sym, subst, ◌∙◌, arith, inl, inr, Option, Some, None, MatchOption, length-append, replicate}
 use Rattle.std.specs.List.{list_any, slice_get, sum_by}
 use Rattle.std.proofs.Math.ListN.{set, length-set}
 use Rattle.std.proofs.lemmas.List.{get_or_past, length-replicate}

@@ -1,9 +1,9 @@
 -- The mark of one page is set or cleared.
-use Rattle.std.proofs.Common.{◌≡◌, ◌≢◌, ◌⊎◌, ℕ, zero, suc, ◌+◌, ◌-◌, ◌<◌, ◌≤◌, List, length, get_or, Bool, true, false, ◌&&◌, cond, eqb, refl, ap, sym, ◌∙◌, arith, inl, inr}
+use Rattle.std.proofs.Common.{◌≡◌, ℕ, zero, suc, ◌+◌, ◌-◌, ◌<◌, ◌≤◌, List, length, get_or, Bool, false, ◌&&◌, cond, eqb, refl, ap, sym, ◌∙◌, arith, inl, inr}
 use Rattle.std.specs.List.{sum_by}
 use Rattle.std.proofs.Math.ListN.{set, length-set}
 use Rattle.std.proofs.lemmas.List.{get_or-set_other}
-use Rattle.std.proofs.lemmas.List.Sums.{sum_by-set, get_or-le-sum_by}
+use Rattle.std.proofs.lemmas.List.Sums.{sum_by-set}
 use Rattle.std.proofs.lemmas.Grind.{get_or-set_at}
 use Rattle.std.proofs.lemmas.Bool.{cases_eq, eq-eqb, ne_eqb}
 use Rattle.ids_base.specs.declared.class.Class.{Class}
@@ -11,7 +11,7 @@ use Rattle.ids_base.specs.declared.class.Class.TheVariants.{Cpu, Lio, Pio, Aio}
 use Rattle.vp_classes.specs.declared.request.IoRequest.{IoRequest}
 use Rattle.vp_classes.specs.declared.request.IoRequest.TheVariants.{LogFlush, ClearFile, PhysFlush, Page, Clean, Checkpoint}
 use Rattle.vp_classes.specs.Asked.{is_same}
-use Rattle.vp_classes.specs.Marks.{one_if, mark, is_taker, marked, limit, Sets}
+use Rattle.vp_classes.specs.Marks.{one_if, mark, is_taker, marked, Sets}
 use Rattle.vp_classes.specs.declared.marks.Marks.{Marks}
 
 page_mark : (xs : List Bool) (k j : ℕ) (to : Bool) → k < length xs → get_or (set xs k to) j false ≡ cond (eqb (suc j) (suc k)) to (get_or xs j false)

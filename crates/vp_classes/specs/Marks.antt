@@ -1,5 +1,5 @@
 -- The marks of requests, and what is counted in them.
-use Rattle.std.specs.Prelude.{ℕ, suc, zero, ◌≡◌, ◌+◌, ◌≤◌, ◌<◌, Bool, true, false, ◌&&◌, if◌then◌else◌, List, [], ◌∷◌, length, slice_index_or, replicate}
+use Rattle.std.specs.Prelude.{ℕ, suc, zero, ◌≡◌, ◌+◌, ◌≤◌, ◌<◌, Bool, true, false, ◌&&◌, if◌then◌else◌, length, slice_index_or, replicate}
 use Rattle.std.specs.List.{sum_by}
 use Rattle.ids_base.specs.declared.class.Class.{Class}
 use Rattle.ids_base.specs.declared.class.Class.TheVariants.{Cpu, Lio, Pio, Aio}

@@ -1,8 +1,8 @@
 -- The queues and the marks of what is queued.
-use Rattle.std.specs.Prelude.{ℕ, ◌≡◌, ◌+◌, ◌≤◌, Bool, ◌&&◌, List, [], ◌∷◌, length}
+use Rattle.std.specs.Prelude.{ℕ, ◌≡◌, ◌+◌, ◌≤◌, ◌&&◌, List, [], ◌∷◌, length}
 use Rattle.std.specs.VecDeque.{deque_capacity}
 use Rattle.ids_base.specs.declared.class.Class.{Class}
-use Rattle.ids_base.specs.declared.class.Class.TheVariants.{Cpu, Lio, Pio, Aio}
+use Rattle.ids_base.specs.declared.class.Class.TheVariants.{Lio, Pio, Aio}
 use Rattle.vp_classes.specs.declared.request.IoRequest.{IoRequest}
 use Rattle.vp_classes.specs.Asked.{Asked, is_same}
 use Rattle.vp_classes.specs.Marks.{one_if, mark, is_taker, marked, IsThere}

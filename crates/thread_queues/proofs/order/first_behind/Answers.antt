@@ -1,4 +1,4 @@
-use Rattle.std.proofs.Common.{◌∙◌, ◌∷◌, ℕ, List, Option, IsSome, length, map, refl, ap, sym, subst, arith}
+use Rattle.std.proofs.Common.{◌∙◌, ℕ, Option, IsSome, length, map, refl, ap, sym, subst, arith}
 use Rattle.link_lists.specs.Lists.{list_at, first_of, behind}
 use Rattle.thread_queues.specs.declared.event.Waiter.{Waiter}
 use Rattle.thread_queues.specs.Laid.{block_at}

@@ -1,4 +1,4 @@
-use Rattle.std.proofs.Common.{◌≡◌, ◌∙◌, ◌-◌, ◌<◌, ℕ, true, false, Option, IsSome, length, map, refl, ap, sym, subst, arith}
+use Rattle.std.proofs.Common.{◌≡◌, ◌∙◌, ◌<◌, ℕ, Option, IsSome, length, map, refl, ap, sym, subst, arith}
 use Rattle.std.specs.List.{filter, slice_get}
 use Rattle.link_lists.specs.Lists.{list_at, first_of, behind}
 use Rattle.thread_queues.specs.Slotted.{threads_of}

@@ -1,5 +1,4 @@
-use Rattle.std.proofs.Common.{◌≡◌, ◌∙◌, List, Option, Some, None, map, option_map, refl, sym, ap, subst}
-use Rattle.thread_queues.specs.declared.event.Event.{Event}
+use Rattle.std.proofs.Common.{Some, None, map, refl, sym, subst}
 use Rattle.thread_queues.specs.declared.event.Waiter.{Waiter}
 use Rattle.thread_queues.specs.declared.order.Order.TheVariants.{Events}
 use Rattle.thread_queues.specs.Events.{is_event_before}

@@ -1,4 +1,4 @@
-use Rattle.std.proofs.Common.{Option, Some, None, ℕ, nat_lt, map, sym, subst}
+use Rattle.std.proofs.Common.{Some, None, nat_lt, map, sym, subst}
 use Rattle.thread_queues.specs.declared.event.Due.{Due}
 use Rattle.thread_queues.specs.Least.{IsLeast}
 use Rattle.thread_queues.specs.Placed.{Placed}

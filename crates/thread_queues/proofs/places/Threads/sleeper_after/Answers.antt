@@ -1,6 +1,5 @@
-use Rattle.std.proofs.Common.{◌≡◌, ◌∙◌, List, Option, Some, None, map, option_map, refl, sym, ap, subst}
+use Rattle.std.proofs.Common.{Some, None, refl, sym, subst}
 use Rattle.thread_queues.specs.declared.event.Sleeper.{Sleeper}
-use Rattle.thread_queues.specs.declared.event.Waiter.{Waiter}
 use Rattle.thread_queues.specs.declared.order.Order.TheVariants.{Ticks}
 use Rattle.thread_queues.specs.Least.{behind, IsLeast}
 use Rattle.thread_queues.specs.Orders.{comes_before}

@@ -1,4 +1,4 @@
-use Rattle.std.proofs.Common.{◌<◌, ◌∙◌, ℕ, Option, Some, None, IfSome, IfNone, nat_eq, sym, subst}
+use Rattle.std.proofs.Common.{◌<◌, ℕ, Option, IfSome, IfNone, nat_eq, sym, subst}
 use Rattle.std.specs.HashMap.{get}
 use Rattle.thread_queues.specs.Placed.{times}
 use Rattle.thread_queues.specs.Slotted.{Slotted, queue_at, threads_of, IsApart}

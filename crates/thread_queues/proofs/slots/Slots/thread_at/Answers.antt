@@ -1,10 +1,9 @@
-use Rattle.std.proofs.Common.{◌∙◌, List, None, map, refl, sym, ap}
-use Rattle.std.specs.List.{filter, slice_get}
+use Rattle.std.proofs.Common.{◌∙◌, List, map, refl, sym, ap}
+use Rattle.std.specs.List.{slice_get}
 use Rattle.link_lists.specs.Lists.{list_at}
 use Rattle.thread_queues.specs.declared.event.Waiter.{Waiter}
 use Rattle.thread_queues.specs.Slotted.{Slotted, queue_at, threads_of}
 use Rattle.thread_queues.specs.Laid.{block_at}
-use Rattle.thread_queues.specs.Orders.{counts}
 use Rattle.thread_queues.proofs.Bucketing.{all-count}
 use Rattle.thread_queues.proofs.Moving.{map-lists}
 use Rattle.thread_queues.proofs.slots.Slots.thread_at.Goals as goal

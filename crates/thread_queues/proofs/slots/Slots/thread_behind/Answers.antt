@@ -1,4 +1,4 @@
-use Rattle.std.proofs.Common.{◌∙◌, nat_lt, List, Option, None, Some, ℕ, map, sym, ap, subst}
+use Rattle.std.proofs.Common.{◌∙◌, nat_lt, List, None, Some, map, sym, ap, subst}
 use Rattle.link_lists.specs.Lists.{list_at}
 use Rattle.thread_queues.specs.declared.event.Waiter.{Waiter}
 use Rattle.thread_queues.specs.declared.order.Order.TheVariants.{Number}

@@ -1,4 +1,4 @@
-use Rattle.std.proofs.Common.{◌==◌, ◌∙◌, ◌<◌, ℕ, List, Some, length, map, nat_eq, ap, sym, refl, subst}
+use Rattle.std.proofs.Common.{◌==◌, ◌∙◌, ◌<◌, ℕ, List, length, map, nat_eq, ap, sym, refl, subst}
 use Rattle.std.specs.HashMap.{get}
 use Rattle.std.specs.List.{filter, slice_get}
 use Rattle.std.proofs.lemmas.Bool.{eq-eqb}

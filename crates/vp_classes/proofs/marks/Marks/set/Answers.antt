@@ -1,4 +1,4 @@
-use Rattle.std.proofs.Common.{◌≡◌, ◌≤◌, ℕ, length, refl, subst}
+use Rattle.std.proofs.Common.{◌≤◌, length, refl, subst}
 use Rattle.vp_classes.specs.Marks.{IsThere}
 use Rattle.vp_classes.proofs.Setting.{sets_page_at}
 use Rattle.vp_classes.proofs.marks.Marks.set.Goals as goal

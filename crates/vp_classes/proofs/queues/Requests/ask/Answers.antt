@@ -1,4 +1,4 @@
-use Rattle.std.proofs.Common.{◌≡◌, ◌<◌, ◌+◌, ◌∙◌, ℕ, Bool, true, subst, List, [], ◌∷◌, ◌++◌, cond, length, arith, sym, ap}
+use Rattle.std.proofs.Common.{◌≡◌, ◌∙◌, ℕ, Bool, true, subst, List, [], ◌∷◌, ◌++◌, cond, length, arith, sym, ap}
 use Rattle.ids_base.specs.declared.class.Class.{Class}
 use Rattle.ids_base.specs.declared.class.Class.TheVariants.{Lio, Pio, Aio}
 use Rattle.vp_classes.specs.declared.request.IoRequest.{IoRequest}
