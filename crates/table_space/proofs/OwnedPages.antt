@@ -53,6 +53,12 @@ count-range t end from [] h = refl
 count-range t end from (None ∷ os) h = omega (arith, by-cons t None os, count-range t end (from + 1) os (omega arith))
 count-range t end from (Some u ∷ os) h = omega (arith, by-cons t (Some u) os, one-range t u from end (omega arith), count-range t end (from + 1) os (omega arith))
 
+-- so a table owns as many pages as there are places between two bounds
+pub count-between : (os : List (Option ℕ)) (xs : List Place) (t end to first : ℕ) → AreOwned os xs → 1 + length os ≤ end → to ≡ count_by (λ x. less place_cmp x (place t end)) xs → first ≡ count_by (λ x. less place_cmp x (place t 0)) xs
+    → to ≡ first + count_by (is_own t) os
+count-between os xs t end to first owned far up low =
+    omega (arith, count-range t end 1 os far, owned (λ x. less place_cmp x (place t end)), owned (λ x. less place_cmp x (place t 0)), up, low)
+
 -- the count of places, where a page goes to a table
 pub owned-set : (p : Place → Bool) (from : ℕ) (os : List (Option ℕ)) (i t : ℕ) (d : Option ℕ) → i < length os
     → count_owned p from (set os i (Some t)) + one_owned p (from + i) (slice_index_or os i d) ≡ count_owned p from os + cond (p (place t (from + i))) 1 0

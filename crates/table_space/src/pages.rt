@@ -96,8 +96,9 @@ impl Pages {
             page: page + 1,
         };
         match self.owned.items.first_from(&next) {
+            None => None,
             Some(found) if found.table == table => Some(found.page),
-            _ => None,
+            Some(_) => None,
         }
     }
 
