@@ -1,4 +1,4 @@
-use Rattle.std.proofs.Common.{◌≡◌, ◌<◌, ◌≤◌, ◌+◌, List, [], ◌∷◌, ◌++◌, length, take, drop, arith, sym, subst, ap, ◌∙◌}
+use Rattle.std.proofs.Common.{◌≡◌, ◌<◌, ◌≤◌, List, [], ◌∷◌, length, take, drop, arith, sym, subst, ap, ◌∙◌}
 use Rattle.std.proofs.lemmas.List.{length-take-le, length-drop, take_all}
 use Rattle.log_records.specs.Entries.{Entry}
 use Rattle.log_records.specs.Viewed.{view_entry}
