@@ -35,7 +35,7 @@ pub fn flushes_keep<D: Disk>()
         → IsReady D.Disk (taken files (length buffer.blocks)) new
         → IsRing files → files.next + length buffer.blocks ≤ files.limit
         → KeepsLog D.Disk since base before all (marks ++ record { at = D.now new; count = length all } ∷ [])
-            (taken files (length buffer.blocks)) (empty_at (buffer.first + length buffer.blocks) buffer.room) new }
+        (taken files (length buffer.blocks)) (empty_at (buffer.first + length buffer.blocks) buffer.room) new }
     ensures outlives { (since : ℕ) (base : Image) (before all : List Entry) (marks : List Flushed) (files : Files) (buffer : Buffer) (old new : D)
         → KeepsLog D.Disk since base before all marks files buffer old
         → Within D.Disk old new (Appends files (bodies buffer.first buffer.blocks))
