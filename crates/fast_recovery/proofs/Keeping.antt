@@ -6,7 +6,7 @@ use Rattle.std.proofs.lemmas.List.{append-nil}
 use Rattle.ids_outside.specs.Counts.{last_count}
 use Rattle.ids_outside.specs.Images.{Image}
 use Rattle.ids_outside.specs.declared.disk.Disk.{Ghosts}
-use Rattle.ids_outside.specs.Stops.{Only, Leaves}
+use Rattle.ids_outside.specs.Stops.{Only}
 use Rattle.gate_blocks.specs.Gates.{block}
 use Rattle.log_records.specs.Entries.{Entry}
 use Rattle.log_records.specs.Bodies.{Body}
