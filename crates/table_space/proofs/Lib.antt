@@ -17,3 +17,6 @@ pub mod Owned
 pub mod Reserving
 pub mod Forks
 pub mod Ordered
+pub mod EmptyOrder
+pub mod EmptyLists
+pub mod KeyStates

@@ -1,7 +1,9 @@
 pub mod Catalogue
 pub mod Directory
+pub mod Emptied
 pub mod Entries
 pub mod Fronts
+pub mod Index
 pub mod Indexed
 pub mod Kept
 pub mod Least

@@ -1,0 +1,58 @@
+-- Entries of keys that have no row in a slot, and their order.
+use Rattle.std.specs.Prelude.{◌≡◌, ◌≢◌, ℕ, ◌≤◌, ◌<◌, ◌^◌, Bool, List, ◌∷◌, ◌++◌, Option, None, length, replicate}
+use Rattle.std.specs.declared.cmp.Ordering.{Ordering}
+use Rattle.std.specs.Ordering.{nat_cmp, ordering_then, is_eq}
+use Rattle.std.specs.Option.{option_cmp}
+use Rattle.std.proofs.Common.{◌⊎◌}
+use Rattle.ids_base.specs.declared.lock.Key.{Key}
+use Rattle.table_space.specs.declared.emptied.EmptyEntry.{EmptyEntry}
+use Rattle.table_space.specs.Numbers.{key_cmp, name_cmp}
+use Rattle.table_space.specs.Ordered.{Each}
+
+-- a key's entry without a row id, and one whose row a transaction took out of a slot
+abbrev pub left : ℕ → ℕ → ℕ → Key → EmptyEntry
+left tx row table key = record { tx = tx; vacant_in = None; row = row; table = table; key = key }
+
+abbrev pub made : ℕ → ℕ → Key → EmptyEntry
+made tx table key = left tx 0 table key
+
+abbrev pub least_key : Key
+least_key = record { size = 0; bytes = replicate 32 0 }
+
+-- by transaction, by the table that they tell of, if they do, and by row id, table and key
+abbrev pub empty_cmp : EmptyEntry → EmptyEntry → Ordering
+empty_cmp a b = ordering_then (nat_cmp a.tx b.tx) (ordering_then (option_cmp nat_cmp a.vacant_in b.vacant_in) (ordering_then (nat_cmp a.row b.row) (ordering_then (nat_cmp a.table b.table) (key_cmp a.key b.key))))
+
+-- an entry of a table and key
+abbrev pub is_of : ℕ → Key → EmptyEntry → Bool
+is_of table key e = is_eq (name_cmp (e.table, e.key) (table, key))
+
+-- a key has 32 bytes
+abbrev pub IsWhole : EmptyEntry → Type 0
+IsWhole e = length e.key.bytes ≡ 32
+
+-- an entry stands among others
+pub record Stands (es : List EmptyEntry) (e : EmptyEntry) : Type 0 where
+  pub before : List EmptyEntry
+  pub behind : List EmptyEntry
+  pub is : es ≡ before ++ e ∷ behind
+
+-- one entry more, somewhere among the others
+pub record HasOneMore (was now : List EmptyEntry) (came : EmptyEntry) : Type 0 where
+  pub before : List EmptyEntry
+  pub behind : List EmptyEntry
+  pub old : was ≡ before ++ behind
+  pub new : now ≡ before ++ came ∷ behind
+
+-- the least transaction from one on that has an entry
+pub record IsNextTx (es : List EmptyEntry) (from tx : ℕ) : Type 0 where
+  pub low : from ≤ tx
+  pub one : EmptyEntry
+  pub stands : Stands es one
+  pub its : one.tx ≡ tx
+  pub least : Each (λ e. (e.tx < from) ⊎ (tx ≤ e.tx)) es
+
+-- an entry of a transaction
+pub record IsOneOf (es : List EmptyEntry) (tx : ℕ) (e : EmptyEntry) : Type 0 where
+  pub stands : Stands es e
+  pub its : e.tx ≡ tx

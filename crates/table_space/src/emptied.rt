@@ -1,0 +1,75 @@
+//! Entries of keys that have no row in a slot.
+ghost use Rattle.std.specs.Prelude.{◌≡◌, length, None};
+ghost use Rattle.table_space.specs.Emptied.{made, left, least_key, IsWhole};
+
+use ids_base::lock::Key;
+use ids_base::numbers::{TableNo, TxNo};
+
+/// An entry of a key whose row is gone from a slot, which stays reserved for the transaction; or, where the row id is `NOWHERE`, in no slot yet.
+/// Of each slot that a transaction alone may have one entry tells so, by the table that owns the page. In the order of the fields.
+#[derive(Clone, Copy, Debug, PartialEq, Eq, PartialOrd, Ord)]
+pub struct EmptyEntry {
+    pub tx: TxNo,
+    pub vacant_in: Option<TableNo>,
+    pub row: u32,
+    pub table: TableNo,
+    pub key: Key,
+}
+
+/// The row id of an entry that has none.
+pub const NOWHERE: u32 = 0;
+
+impl EmptyEntry {
+    /// An entry of a key that has no row id. Constant time.
+    pub fn made(tx: TxNo, table: TableNo, key: &Key) -> EmptyEntry
+        ensures is { result ≡ made tx table key.now }
+        ensures whole { IsWhole result }
+    {
+        EmptyEntry::left(tx, NOWHERE, table, key)
+    }
+
+    /// An entry of a key whose row a transaction took out of a slot. Constant time.
+    pub fn left(tx: TxNo, row: u32, table: TableNo, key: &Key) -> EmptyEntry
+        ensures is { result ≡ left tx row table key.now }
+        ensures whole { IsWhole result }
+    {
+        EmptyEntry {
+            tx,
+            vacant_in: None,
+            row,
+            table,
+            key: copied(key),
+        }
+    }
+
+    /// The least entry that a transaction may have. Constant time.
+    pub fn first(tx: TxNo) -> EmptyEntry
+        ensures { result ≡ made tx 0 least_key }
+    {
+        EmptyEntry {
+            tx,
+            vacant_in: None,
+            row: NOWHERE,
+            table: 0,
+            key: LEAST,
+        }
+    }
+}
+
+/// The least key.
+const LEAST: Key = Key {
+    size: 0,
+    bytes: [0; 32],
+};
+
+// The same key.
+fn copied(key: &Key) -> Key
+    ensures same { result ≡ key.now }
+    ensures whole { length result.bytes ≡ 32 }
+{
+    let bytes = key.bytes;
+    Key {
+        size: key.size,
+        bytes,
+    }
+}
