@@ -1,11 +1,12 @@
 -- Lists of entries without rows where one comes or goes.
-use Rattle.std.proofs.Common.{◌≡◌, ℕ, ◌+◌, Bool, true, false, cond, List, [], ◌∷◌, ◌++◌, Option, Some, None, length, length-append, arith, refl, ap, sym, ◌∙◌, subst}
+use Rattle.std.proofs.Common.{◌≡◌, ℕ, zero, suc, ◌+◌, Bool, true, false, cond, List, [], ◌∷◌, ◌++◌, Option, Some, None, length, length-append, arith, refl, ap, sym, ◌∙◌, subst}
 use Rattle.std.specs.List.{count_by}
-use Rattle.std.specs.Option.{MatchOption}
+use Rattle.std.specs.Option.{MatchOption, is_some}
 use Rattle.std.specs.Bool.{IsTrue}
 use Rattle.std.specs.Ordering.{is_eq, eq_by_cmp}
 use Rattle.std.specs.declared.cmp.Ordering.{Ordering}
 use Rattle.std.specs.declared.cmp.Ordering.TheVariants.{Less, Equal, Greater}
+use Rattle.std.specs.Cmp.{Equal-is}
 use Rattle.std.proofs.lemmas.Bool.{false≢true}
 use Rattle.std.proofs.lemmas.Cmp.{tied_itself}
 use Rattle.std.proofs.lemmas.List.Sums.{sum_by-append}
@@ -13,7 +14,7 @@ use Rattle.table_space.specs.declared.emptied.EmptyEntry.{EmptyEntry}
 use Rattle.table_space.specs.Emptied.{empty_cmp, Stands, HasOneMore}
 use Rattle.table_space.specs.Ordered.{less, Each, AreBelow, IsOrdered, IsPut, IsTaken, HasNone, IsFirstFrom}
 use Rattle.table_space.proofs.Ordered.{settled, each-append, each-left, each-right, each-weaker, ordered-from}
-use Rattle.table_space.proofs.EmptyOrder.{empty_total, neither-less, not-less-itself}
+use Rattle.table_space.proofs.EmptyOrder.{empty_total, empty-same, neither-less, not-less-itself}
 
 -- what holds of each entry holds of one that stands there, of each of one more, and of one less
 pub at-stands : (P : EmptyEntry → Type 0) (xs : List EmptyEntry) (e : EmptyEntry) → Stands xs e → Each P xs → P e
@@ -69,5 +70,19 @@ taken-fewer (Some x) xs ys e h s =
 pub has-none : (xs : List EmptyEntry) (e : EmptyEntry) → AreBelow empty_cmp e xs → (IsTrue false → Stands xs e) × (Stands xs e → IsTrue false)
 has-none xs e h = ((λ i. absurd (false≢true i)), (λ s. absurd (below-stands xs e h s)))
 
-pub has-some : (xs : List EmptyEntry) (e x : EmptyEntry) (r : Bool) → IsOrdered empty_cmp xs → IsFirstFrom empty_cmp xs e x → r ≡ true → x ≡ e → (IsTrue r → Stands xs e) × (Stands xs e → IsTrue r)
-has-some xs e x r o h k same = ((λ i. record { before = h.before; behind = h.behind; is = h.is ∙ ap (λ z. h.before ++ z ∷ h.behind) same }), (λ s. k))
+pub has-some : (xs : List EmptyEntry) (e x : EmptyEntry) (r : Bool) → IsOrdered empty_cmp xs → IsFirstFrom empty_cmp xs e x → r ≡ eq_by_cmp empty_cmp x e → (IsTrue r → Stands xs e) × (Stands xs e → IsTrue r)
+has-some xs e x r o h k =
+    ((λ i. let same = empty-same x e ((Equal-is (empty_cmp x e)).0 (sym k ∙ i)) in record { before = h.before; behind = h.behind; is = h.is ∙ ap (λ z. h.before ++ z ∷ h.behind) same }), (λ s. let same = first-is xs e x o h s in k ∙ (ap (λ z. eq_by_cmp empty_cmp z e) same ∙ ap is_eq (tied_itself empty_total e))))
+
+-- and its node is spare
+pub taken-spare : (o : Option EmptyEntry) (xs ys : List EmptyEntry) (e : EmptyEntry) (was now : List EmptyEntry) → MatchOption o (HasNone empty_cmp xs e × (ys ≡ xs)) (IsTaken empty_cmp xs ys e) → MatchOption o (now ≡ was) (λ _. length now ≡ length was + 1) → Stands xs e → length now ≡ length was + 1
+taken-spare None xs ys e was now h k s = absurd (none-stands xs e h.0 s)
+taken-spare (Some x) xs ys e was now h k s = k
+
+-- where one of the same key comes for one that goes, as many pass a test of the key
+pub exchanged-count : (p : EmptyEntry → Bool) (xs ys zs : List EmptyEntry) (e f : EmptyEntry) → HasOneMore ys xs e → HasOneMore ys zs f → p f ≡ p e → count_by p zs ≡ count_by p xs
+exchanged-count p xs ys zs e f went came same = omega (arith, more-count p ys xs e went, more-count p ys zs f came, ap (λ (b : Bool). cond b (suc zero) zero) same)
+
+pub not-taken : (o : Option EmptyEntry) (xs ys : List EmptyEntry) (e : EmptyEntry) → MatchOption o (HasNone empty_cmp xs e × (ys ≡ xs)) (IsTaken empty_cmp xs ys e) → Stands xs e → is_some o ≡ false → ⊥
+not-taken None xs ys e h s n = none-stands xs e h.0 s
+not-taken (Some x) xs ys e h s n = false≢true (sym n)

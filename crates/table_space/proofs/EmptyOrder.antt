@@ -76,7 +76,7 @@ options-same None (Some b) e = cc
 options-same (Some a) None e = cc
 options-same (Some a) (Some b) e = ap Some (nats-same a b e)
 
-empty-same : (a b : EmptyEntry) → empty_cmp a b ≡ Equal → a ≡ b
+pub empty-same : (a b : EmptyEntry) → empty_cmp a b ≡ Equal → a ≡ b
 empty-same a b e =
     let p = then-equal _ _ e in
     let o = then-equal _ _ p.1 in

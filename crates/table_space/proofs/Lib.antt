@@ -20,3 +20,4 @@ pub mod Ordered
 pub mod EmptyOrder
 pub mod EmptyLists
 pub mod KeyStates
+pub mod TransactionBounds

@@ -44,6 +44,12 @@ pub record HasOneMore (was now : List EmptyEntry) (came : EmptyEntry) : Type 0 w
   pub old : was ≡ before ++ behind
   pub new : now ≡ before ++ came ∷ behind
 
+-- one entry went, and another came
+pub record IsExchanged (was now : List EmptyEntry) (went came : EmptyEntry) : Type 0 where
+  pub beside : List EmptyEntry
+  pub left : HasOneMore beside was went
+  pub joined : HasOneMore beside now came
+
 -- the least transaction from one on that has an entry
 pub record IsNextTx (es : List EmptyEntry) (from tx : ℕ) : Type 0 where
   pub low : from ≤ tx

@@ -4,6 +4,7 @@ use Rattle.std.specs.List.{count_by, sum_by}
 use Rattle.std.specs.BTreeMap as tree
 use Rattle.std.specs.BTreeMap.{BTreeMap, is_at}
 use Rattle.std.specs.Map.{lookup}
+use Rattle.std.specs.Option.{option_map, unwrap_or}
 use Rattle.ids_base.specs.declared.lock.Key.{Key}
 use Rattle.table_space.specs.declared.emptied.EmptyEntry.{EmptyEntry}
 use Rattle.table_space.specs.declared.index.KeyState.{KeyState}
@@ -59,10 +60,32 @@ has_row (Some r) = 1
 abbrev pub one_if : KeyState → ℕ
 one_if s = has_row s.row
 
+-- the row of a key of that state
+abbrev pub row_if : Option KeyState → Option ℕ
+row_if None = None
+row_if (Some s) = s.row
+
 -- how many entries without rows a key counts
 abbrev pub empty_of : Option KeyState → ℕ
 empty_of None = 0
 empty_of (Some s) = s.empty
+
+-- a sum over the states of keys, where that of one key becomes another, or goes
+abbrev pub Sums : BTreeMap (ℕ × Key) KeyState → BTreeMap (ℕ × Key) KeyState → ℕ × Key → Option KeyState → Type 0
+Sums was now q o = (f : KeyState → ℕ) → sum_by f (tree.values now) + unwrap_or (option_map f (tree.get name_cmp was q)) 0 ≡ sum_by f (tree.values was) + unwrap_or (option_map f o) 0
+
+-- one key has another state, or none
+pub record StateBecomes (was now : BTreeMap (ℕ × Key) KeyState) (q : ℕ × Key) (o : Option KeyState) : Type 0 where
+  pub gets : (p : ℕ × Key) → tree.get name_cmp now p ≡ cond (is_at (name_cmp q) p) o (tree.get name_cmp was p)
+  pub sums : Sums was now q o
+  pub sorted : tree.IsOrdered name_cmp now
+
+-- a key has one entry less, and no state where it has neither entries nor a row
+pub record LosesOne (was now : BTreeMap (ℕ × Key) KeyState) (q : ℕ × Key) (s : KeyState) : Type 0 where
+  pub state : Option KeyState
+  pub becomes : StateBecomes was now q state
+  pub row : row_if state ≡ s.row
+  pub fewer : empty_of state + 1 ≡ s.empty
 
 -- The entries are in order; there is a node for each key that has a row, to be emptied; and each key counts its entries without rows.
 pub record IsIndex (keys : BTreeMap (ℕ × Key) KeyState) (empty spare : List EmptyEntry) : Type 0 where

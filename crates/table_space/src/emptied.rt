@@ -1,9 +1,11 @@
 //! Entries of keys that have no row in a slot.
 ghost use Rattle.std.specs.Prelude.{◌≡◌, length, None};
-ghost use Rattle.table_space.specs.Emptied.{made, left, least_key, IsWhole};
+ghost use Rattle.table_space.specs.Emptied.{made, left, least_key, empty_cmp, IsWhole};
+ghost use Rattle.std.specs.Ordering.{is_eq};
 
 use ids_base::lock::Key;
 use ids_base::numbers::{TableNo, TxNo};
+use std::cmp::Ordering;
 
 /// An entry of a key whose row is gone from a slot, which stays reserved for the transaction; or, where the row id is `NOWHERE`, in no slot yet.
 /// Of each slot that a transaction alone may have one entry tells so, by the table that owns the page. In the order of the fields.
@@ -40,6 +42,13 @@ impl EmptyEntry {
             table,
             key: copied(key),
         }
+    }
+
+    /// Whether two entries are the same. Constant time.
+    pub fn is_same(&self, other: &EmptyEntry) -> bool
+        ensures { result ≡ is_eq (empty_cmp self.now other.now) }
+    {
+        self.cmp(other) == Ordering::Equal
     }
 
     /// The least entry that a transaction may have. Constant time.

@@ -1,8 +1,10 @@
 //! The index of keys: where the row of each key is, and what transactions emptied.
-ghost use Rattle.std.specs.Prelude.{◌≡◌, ◌≢◌, ◌↔◌, ◌<◌, [], ℕ, None, Some, IsTrue, IsSome, MatchOption, OnOk, OnErr, length};
+ghost use Rattle.std.specs.Prelude.{◌≡◌, ◌≢◌, ◌↔◌, ◌<◌, ◌≤◌, [], ℕ, None, Some, IsTrue, IsSome, MatchOption, OnOk, OnErr, length};
 ghost use Rattle.std.specs.List.{count_by};
-ghost use Rattle.table_space.specs.Emptied.{is_of, made, Stands, HasOneMore, IsNextTx, IsOneOf, IsWhole};
-ghost use Rattle.table_space.specs.Index.{row_at, RowBecomes, KeepsRows};
+ghost use Rattle.std.specs.BTreeMap as tree;
+ghost use Rattle.table_space.specs.Emptied.{is_of, made, Stands, HasOneMore, IsExchanged, IsNextTx, IsOneOf, IsWhole};
+ghost use Rattle.table_space.specs.Numbers.{name_cmp};
+ghost use Rattle.table_space.specs.Index.{row_at, RowBecomes, KeepsRows, StateBecomes, LosesOne};
 ghost use Rattle.table_space.specs.Ordered.{Each};
 
 use crate::emptied::EmptyEntry;
@@ -94,5 +96,122 @@ impl Index {
         self.keys.insert((table, *key), one_more)?;
         self.empty.put(entry);
         Ok(())
+    }
+
+    /// A key whose row is in no slot has it in this one, and one of its entries without a row goes. Logarithmic; takes no memory.
+    pub fn fill(&mut self, from: &EmptyEntry, row: u32)
+        requires there { Stands self.old.empty from.now }
+        requires nowhere { row_at self.old.rows from.now.table from.now.key ≡ None }
+        ensures row { RowBecomes self.old.rows self.new.rows from.now.table from.now.key (Some row) }
+        ensures went { HasOneMore self.new.empty self.old.empty from.now }
+    {
+        let state = self.state(from.table, &from.key);
+        let filled = KeyState {
+            row: Some(row),
+            empty: state.empty - 1,
+        };
+        keep(&mut self.keys, from.table, &from.key, filled);
+        self.empty.take(from);
+    }
+
+    /// A key whose row is in a slot has it nowhere, and an entry of the key without a row comes. Logarithmic; takes no memory.
+    pub fn empty(&mut self, to: EmptyEntry)
+        requires there { IsSome (row_at self.old.rows to.table to.key) }
+        requires whole { IsWhole to }
+        ensures row { RowBecomes self.old.rows self.new.rows to.table to.key None }
+        ensures came { HasOneMore self.old.empty self.new.empty to }
+    {
+        let state = self.state(to.table, &to.key);
+        let emptied = KeyState {
+            row: None,
+            empty: state.empty + 1,
+        };
+        keep(&mut self.keys, to.table, &to.key, emptied);
+        self.empty.put(to);
+    }
+
+    /// Another entry of the same key in the place of one. Logarithmic; takes no memory.
+    pub fn change(&mut self, from: &EmptyEntry, to: EmptyEntry)
+        requires there { Stands self.old.empty from.now }
+        requires table { to.table ≡ from.now.table }
+        requires key { to.key ≡ from.now.key }
+        requires whole { IsWhole to }
+        ensures exchanged { IsExchanged self.old.empty self.new.empty from.now to }
+        ensures rows { self.new.rows ≡ self.old.rows }
+    {
+        if self.empty.take(from).is_some() {
+            self.empty.put(to);
+        }
+    }
+
+    /// Drops an entry. Logarithmic; takes no memory.
+    pub fn drop_entry(&mut self, entry: &EmptyEntry)
+        requires { Stands self.old.empty entry.now }
+        ensures went { HasOneMore self.new.empty self.old.empty entry.now }
+        ensures rows { KeepsRows self.old.rows self.new.rows }
+    {
+        let state = self.state(entry.table, &entry.key);
+        lose(&mut self.keys, entry.table, &entry.key, state);
+        self.empty.take(entry);
+    }
+
+    /// Whether an entry is there. Logarithmic.
+    pub fn has(&self, entry: &EmptyEntry) -> bool
+        ensures { IsTrue result ↔ Stands self.now.empty entry.now }
+    {
+        match self.empty.items.first_from(entry) {
+            None => false,
+            Some(found) => found.is_same(entry),
+        }
+    }
+
+    /// The least transaction from one on that has an entry, if there is one. Logarithmic.
+    pub fn next_tx(&self, from: TxNo) -> Option<TxNo>
+        ensures { MatchOption result (Each (λ e. e.tx < from) self.now.empty) (IsNextTx self.now.empty from) }
+    {
+        match self.empty.items.first_from(&EmptyEntry::first(from)) {
+            None => None,
+            Some(found) => Some(found.tx),
+        }
+    }
+
+    /// An entry of a transaction, if it has one. Logarithmic.
+    pub fn first_of(&self, tx: TxNo) -> Option<EmptyEntry>
+        ensures { MatchOption result (Each (λ e. e.tx ≢ tx) self.now.empty) (IsOneOf self.now.empty tx) }
+    {
+        match self.empty.items.first_from(&EmptyEntry::first(tx)) {
+            None => None,
+            Some(found) => { if found.tx == tx { Some(found) } else { None } }
+        }
+    }
+}
+
+// Keeps another state of a key that has one.
+fn keep(keys: &mut BTreeMap<(TableNo, Key), KeyState>, table: TableNo, key: &Key, state: KeyState)
+    requires there { IsSome (tree.get name_cmp keys.old (table, key.now)) }
+    requires sorted { tree.IsOrdered name_cmp keys.old }
+    ensures { StateBecomes keys.old keys.new (table, key.now) (Some state) }
+{
+    match keys.insert((table, *key), state) {
+        Ok(_) => {}
+        Err(_) => unreachable!(),
+    }
+}
+
+// A key that has a state loses one of its entries.
+fn lose(keys: &mut BTreeMap<(TableNo, Key), KeyState>, table: TableNo, key: &Key, state: KeyState)
+    requires there { IsSome (tree.get name_cmp keys.old (table, key.now)) }
+    requires some { 1 ≤ state.empty }
+    requires sorted { tree.IsOrdered name_cmp keys.old }
+    ensures { LosesOne keys.old keys.new (table, key.now) state }
+{
+    if state.row.is_none() && state.empty == 1 {
+        keys.remove(&(table, *key));
+    } else {
+        let fewer = KeyState {
+            row: state.row,
+            empty: state.empty - 1,
+        };
+        keep(keys, table, key, fewer);
     }
 }

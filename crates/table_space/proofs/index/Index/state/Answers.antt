@@ -4,8 +4,8 @@ use Rattle.std.specs.List.{count_by}
 use Rattle.std.specs.BTreeMap as tree
 use Rattle.table_space.specs.Numbers.{name_cmp}
 use Rattle.table_space.specs.Emptied.{is_of}
-use Rattle.table_space.specs.Index.{row_at, empty_of}
-use Rattle.table_space.proofs.KeyStates.{row-is, row_if}
+use Rattle.table_space.specs.Index.{row_at, row_if, empty_of}
+use Rattle.table_space.proofs.KeyStates.{row-is}
 use Rattle.table_space.proofs.index.Index.state.Goals as goal
 
 pub returns-in-None-clause-row : goal.returns-in-None-clause-row
