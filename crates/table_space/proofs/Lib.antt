@@ -21,3 +21,4 @@ pub mod EmptyOrder
 pub mod EmptyLists
 pub mod KeyStates
 pub mod TransactionBounds
+pub mod EntriesAt

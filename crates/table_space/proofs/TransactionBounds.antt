@@ -9,12 +9,12 @@ use Rattle.std.proofs.lemmas.Bool.{false≢true}
 use Rattle.std.proofs.lemmas.Bool.Decides.{nat_tests}
 use Rattle.std.proofs.lemmas.Cmp.{ranked, by_ranked}
 use Rattle.table_space.specs.declared.emptied.EmptyEntry.{EmptyEntry}
-use Rattle.table_space.specs.Emptied.{made, least_key, empty_cmp, IsWhole, IsNextTx}
+use Rattle.table_space.specs.Emptied.{first, least_key, empty_cmp, IsWhole, IsNextTx}
 use Rattle.table_space.specs.Numbers.{key_cmp}
 use Rattle.table_space.specs.Ordered.{less, Each, AreBelow, IsOrdered, IsFirstFrom}
 use Rattle.table_space.proofs.Ordered.{each-append, each-left, each-weaker, ordered-from}
 
-each-both : (P Q R : EmptyEntry → Type 0) (xs : List EmptyEntry) → ((x : EmptyEntry) → P x → Q x → R x) → Each P xs → Each Q xs → Each R xs
+pub each-both : (P Q R : EmptyEntry → Type 0) (xs : List EmptyEntry) → ((x : EmptyEntry) → P x → Q x → R x) → Each P xs → Each Q xs → Each R xs
 each-both P Q R [] f a b = tt
 each-both P Q R (x ∷ xs) f a b = (f x a.0 b.0, each-both P Q R xs f a.1 b.1)
 
@@ -36,13 +36,17 @@ none-first : (o : Option ℕ) → is_lt (option_cmp nat_cmp o None) ≡ false
 none-first None = refl
 none-first (Some n) = refl
 
+-- what stands behind the row id is not less than the least
+pub tail-not-less : (d : EmptyEntry) → length d.key.bytes ≡ 32 → is_lt (ordering_then (nat_cmp d.table 0) (key_cmp d.key least_key)) ≡ false
+tail-not-less d e = then-not-less _ _ (zero-least d.table) (then-not-less (nat_cmp d.key.size 0) _ (zero-least d.key.size) (zeros-least d.key.bytes 32 e))
+
 rest-not-less : (d : EmptyEntry) → length d.key.bytes ≡ 32 → is_lt (ordering_then (option_cmp nat_cmp d.vacant_in None) (ordering_then (nat_cmp d.row 0) (ordering_then (nat_cmp d.table 0) (key_cmp d.key least_key)))) ≡ false
 rest-not-less d e =
     then-not-less
     _
     _
     (none-first d.vacant_in)
-    (then-not-less _ _ (zero-least d.row) (then-not-less _ _ (zero-least d.table) (then-not-less (nat_cmp d.key.size 0) _ (zero-least d.key.size) (zeros-least d.key.bytes 32 e))))
+    (then-not-less _ _ (zero-least d.row) (tail-not-less d e))
 
 by-tx : (a b : ℕ) (r : Ordering) → is_lt (ordering_then (nat_cmp a b) r) ≡ true → is_lt r ≡ false → a < b
 by-tx a b r h l =
@@ -69,16 +73,16 @@ by-tx-from a b r h =
     (λ e p. omega (arith, p))
 
 -- entries before it are of transactions below, and those from one on are of its transaction or later ones
-below-bound : (tx : ℕ) (y : EmptyEntry) → less empty_cmp y (made tx 0 least_key) ≡ true → IsWhole y → y.tx < tx
+below-bound : (tx : ℕ) (y : EmptyEntry) → less empty_cmp y (first tx None 0) ≡ true → IsWhole y → y.tx < tx
 below-bound tx y h w = by-tx y.tx tx _ h (rest-not-less y w)
 
 from-entry : (e d : EmptyEntry) → less empty_cmp d e ≡ false → e.tx ≤ d.tx
 from-entry e d h = by-tx-from d.tx e.tx _ h
 
-pub none-from : (tx : ℕ) (xs : List EmptyEntry) → AreBelow empty_cmp (made tx 0 least_key) xs → Each IsWhole xs → Each (λ (e : EmptyEntry). e.tx < tx) xs
+pub none-from : (tx : ℕ) (xs : List EmptyEntry) → AreBelow empty_cmp (first tx None 0) xs → Each IsWhole xs → Each (λ (e : EmptyEntry). e.tx < tx) xs
 none-from tx xs a w = each-both _ IsWhole (λ (e : EmptyEntry). e.tx < tx) xs (below-bound tx) a w
 
-pub next-of : (tx : ℕ) (xs : List EmptyEntry) (e : EmptyEntry) → IsOrdered empty_cmp xs → Each IsWhole xs → IsFirstFrom empty_cmp xs (made tx 0 least_key) e → IsNextTx xs tx e.tx
+pub next-of : (tx : ℕ) (xs : List EmptyEntry) (e : EmptyEntry) → IsOrdered empty_cmp xs → Each IsWhole xs → IsFirstFrom empty_cmp xs (first tx None 0) e → IsNextTx xs tx e.tx
 next-of tx xs e o w h =
     let P : EmptyEntry → Type 0 = λ d. (d.tx < tx) ⊎ (e.tx ≤ d.tx) in
     let ws = subst (Each IsWhole) h.is w in

@@ -1,8 +1,8 @@
 -- Entries of keys that have no row in a slot, and their order.
-use Rattle.std.specs.Prelude.{◌≡◌, ◌≢◌, ℕ, ◌≤◌, ◌<◌, ◌^◌, Bool, List, ◌∷◌, ◌++◌, Option, None, length, replicate}
+use Rattle.std.specs.Prelude.{◌≡◌, ◌≢◌, ℕ, ◌≤◌, ◌<◌, ◌^◌, Bool, ◌&&◌, ◌==◌, nat_eq, List, ◌∷◌, ◌++◌, Option, None, length, replicate}
 use Rattle.std.specs.declared.cmp.Ordering.{Ordering}
 use Rattle.std.specs.Ordering.{nat_cmp, ordering_then, is_eq}
-use Rattle.std.specs.Option.{option_cmp}
+use Rattle.std.specs.Option.{option_cmp, option_eq}
 use Rattle.std.proofs.Common.{◌⊎◌}
 use Rattle.ids_base.specs.declared.lock.Key.{Key}
 use Rattle.table_space.specs.declared.emptied.EmptyEntry.{EmptyEntry}
@@ -18,6 +18,14 @@ made tx table key = left tx 0 table key
 
 abbrev pub least_key : Key
 least_key = record { size = 0; bytes = replicate 32 0 }
+
+-- the least entry of a transaction with a row id of at least so much, that tells of a table, or does not
+abbrev pub first : ℕ → Option ℕ → ℕ → EmptyEntry
+first tx vacant_in row = record { tx = tx; vacant_in = vacant_in; row = row; table = 0; key = least_key }
+
+-- a transaction's entry with this row id that tells of a table, or does not
+abbrev pub is_at : ℕ → Option ℕ → ℕ → EmptyEntry → Bool
+is_at tx vacant_in row e = (e.tx == tx) && (option_eq nat_eq e.vacant_in vacant_in && (e.row == row))
 
 -- by transaction, by the table that they tell of, if they do, and by row id, table and key
 abbrev pub empty_cmp : EmptyEntry → EmptyEntry → Ordering

@@ -1,6 +1,6 @@
 //! Entries of keys that have no row in a slot.
 ghost use Rattle.std.specs.Prelude.{◌≡◌, length, None};
-ghost use Rattle.table_space.specs.Emptied.{made, left, least_key, empty_cmp, IsWhole};
+ghost use Rattle.table_space.specs.Emptied.{made, left, first, is_at, empty_cmp, IsWhole};
 ghost use Rattle.std.specs.Ordering.{is_eq};
 
 use ids_base::lock::Key;
@@ -13,13 +13,13 @@ use std::cmp::Ordering;
 pub struct EmptyEntry {
     pub tx: TxNo,
     pub vacant_in: Option<TableNo>,
-    pub row: u32,
+    pub row: u64,
     pub table: TableNo,
     pub key: Key,
 }
 
 /// The row id of an entry that has none.
-pub const NOWHERE: u32 = 0;
+pub const NOWHERE: u64 = 0;
 
 impl EmptyEntry {
     /// An entry of a key that has no row id. Constant time.
@@ -31,7 +31,7 @@ impl EmptyEntry {
     }
 
     /// An entry of a key whose row a transaction took out of a slot. Constant time.
-    pub fn left(tx: TxNo, row: u32, table: TableNo, key: &Key) -> EmptyEntry
+    pub fn left(tx: TxNo, row: u64, table: TableNo, key: &Key) -> EmptyEntry
         ensures is { result ≡ left tx row table key.now }
         ensures whole { IsWhole result }
     {
@@ -51,17 +51,24 @@ impl EmptyEntry {
         self.cmp(other) == Ordering::Equal
     }
 
-    /// The least entry that a transaction may have. Constant time.
-    pub fn first(tx: TxNo) -> EmptyEntry
-        ensures { result ≡ made tx 0 least_key }
+    /// The least entry that a transaction may have with a row id of at least so much, and that tells of a table, or does not. Constant time.
+    pub fn first(tx: TxNo, vacant_in: Option<TableNo>, row: u64) -> EmptyEntry
+        ensures { result ≡ first tx vacant_in row }
     {
         EmptyEntry {
             tx,
-            vacant_in: None,
-            row: NOWHERE,
+            vacant_in,
+            row,
             table: 0,
             key: LEAST,
         }
+    }
+
+    /// Whether an entry is a transaction's, has this row id, and tells of a table, or does not. Constant time.
+    pub fn is_at(&self, tx: TxNo, vacant_in: Option<TableNo>, row: u64) -> bool
+        ensures { result ≡ is_at tx vacant_in row self.now }
+    {
+        self.tx == tx && self.vacant_in == vacant_in && self.row == row
     }
 }
 

@@ -1,13 +1,13 @@
 //! The index of keys: where the row of each key is, and what transactions emptied.
-ghost use Rattle.std.specs.Prelude.{◌≡◌, ◌≢◌, ◌↔◌, ◌<◌, ◌≤◌, [], ℕ, None, Some, IsTrue, IsSome, MatchOption, OnOk, OnErr, length};
+ghost use Rattle.std.specs.Prelude.{◌≡◌, ◌≢◌, ◌^◌, ◌↔◌, ◌<◌, ◌≤◌, [], ℕ, None, Some, IsTrue, true, false, IsSome, MatchOption, OnOk, OnErr, length};
 ghost use Rattle.std.specs.List.{count_by};
 ghost use Rattle.std.specs.BTreeMap as tree;
-ghost use Rattle.table_space.specs.Emptied.{is_of, made, Stands, HasOneMore, IsExchanged, IsNextTx, IsOneOf, IsWhole};
+ghost use Rattle.table_space.specs.Emptied.{is_of, is_at, made, Stands, HasOneMore, IsExchanged, IsNextTx, IsOneOf, IsWhole};
 ghost use Rattle.table_space.specs.Numbers.{name_cmp};
 ghost use Rattle.table_space.specs.Index.{row_at, RowBecomes, KeepsRows, StateBecomes, LosesOne};
 ghost use Rattle.table_space.specs.Ordered.{Each};
 
-use crate::emptied::EmptyEntry;
+use crate::emptied::{EmptyEntry, NOWHERE};
 use crate::tree::Store;
 use ids_base::lock::Key;
 use ids_base::memory::Memory;
@@ -169,7 +169,11 @@ impl Index {
     pub fn next_tx(&self, from: TxNo) -> Option<TxNo>
         ensures { MatchOption result (Each (λ e. e.tx < from) self.now.empty) (IsNextTx self.now.empty from) }
     {
-        match self.empty.items.first_from(&EmptyEntry::first(from)) {
+        match self
+            .empty
+            .items
+            .first_from(&EmptyEntry::first(from, None, NOWHERE))
+        {
             None => None,
             Some(found) => Some(found.tx),
         }
@@ -179,10 +183,44 @@ impl Index {
     pub fn first_of(&self, tx: TxNo) -> Option<EmptyEntry>
         ensures { MatchOption result (Each (λ e. e.tx ≢ tx) self.now.empty) (IsOneOf self.now.empty tx) }
     {
-        match self.empty.items.first_from(&EmptyEntry::first(tx)) {
+        match self
+            .empty
+            .items
+            .first_from(&EmptyEntry::first(tx, None, NOWHERE))
+        {
             None => None,
             Some(found) => { if found.tx == tx { Some(found) } else { None } }
         }
+    }
+
+    /// The first entry of a transaction with a row id that tells of a table, or does not, if there is one. Logarithmic.
+    pub fn first_at(&self, tx: TxNo, vacant_in: Option<TableNo>, row: u64) -> Option<EmptyEntry>
+        ensures { MatchOption result (Each (λ e. is_at tx vacant_in row e ≡ false) self.now.empty) (λ e. Stands self.now.empty e × (is_at tx vacant_in row e ≡ true)) }
+    {
+        match self
+            .empty
+            .items
+            .first_from(&EmptyEntry::first(tx, vacant_in, row))
+        {
+            None => None,
+            Some(found) => {
+                if found.is_at(tx, vacant_in, row) {
+                    Some(found)
+                } else {
+                    None
+                }
+            }
+        }
+    }
+
+    /// How many entries of a transaction with a row id tell of a table, or do not. Logarithmic.
+    pub fn count_at(&self, tx: TxNo, vacant_in: Option<TableNo>, row: u64) -> u32
+        requires { row < 2 ^ 32 }
+        ensures { result ≡ count_by (is_at tx vacant_in row) self.now.empty }
+    {
+        let from = EmptyEntry::first(tx, vacant_in, row);
+        let to = EmptyEntry::first(tx, vacant_in, row + 1);
+        self.empty.items.count_below(&to) - self.empty.items.count_below(&from)
     }
 }
 
