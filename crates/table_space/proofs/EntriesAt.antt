@@ -58,7 +58,7 @@ module _ (tx : ℕ) (v : Option ℕ) (row : ℕ) where
   at-step e w =
       let a = nat_cmp e.tx tx in
       let b = option_cmp nat_cmp e.vacant_in v in
-      let t = tail-not-less e w in
+      let t = tail-not-less e w.0 in
       let low : less empty_cmp e (first tx v row) ≡ is_lt (ordering_then a (ordering_then b (nat_cmp e.row row))) = then-tail a b (nat_cmp e.row row) _ t in
       let high : less empty_cmp e (first tx v (row + 1)) ≡ is_lt (ordering_then a (ordering_then b (nat_cmp e.row (row + 1)))) = then-tail a b (nat_cmp e.row (row + 1)) _ t in
       let at : is_at tx v row e ≡ (is_eq a && (is_eq b && (e.row == row))) = λ i. nats-told e.tx tx a refl i && (options-told e.vacant_in v i && (e.row == row)) in

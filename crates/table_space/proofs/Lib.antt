@@ -22,3 +22,4 @@ pub mod EmptyLists
 pub mod KeyStates
 pub mod TransactionBounds
 pub mod EntriesAt
+pub mod LikeEntries

@@ -74,7 +74,7 @@ by-tx-from a b r h =
 
 -- entries before it are of transactions below, and those from one on are of its transaction or later ones
 below-bound : (tx : ℕ) (y : EmptyEntry) → less empty_cmp y (first tx None 0) ≡ true → IsWhole y → y.tx < tx
-below-bound tx y h w = by-tx y.tx tx _ h (rest-not-less y w)
+below-bound tx y h w = by-tx y.tx tx _ h (rest-not-less y w.0)
 
 from-entry : (e d : EmptyEntry) → less empty_cmp d e ≡ false → e.tx ≤ d.tx
 from-entry e d h = by-tx-from d.tx e.tx _ h

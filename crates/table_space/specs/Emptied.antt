@@ -35,9 +35,24 @@ empty_cmp a b = ordering_then (nat_cmp a.tx b.tx) (ordering_then (option_cmp nat
 abbrev pub is_of : ℕ → Key → EmptyEntry → Bool
 is_of table key e = is_eq (name_cmp (e.table, e.key) (table, key))
 
--- a key has 32 bytes
+-- what the types say of an entry: a key has 32 bytes, and a transaction's number 64 bits
 abbrev pub IsWhole : EmptyEntry → Type 0
-IsWhole e = length e.key.bytes ≡ 32
+IsWhole e = (length e.key.bytes ≡ 32) × (e.tx < 2 ^ 64)
+
+-- a transaction's entry with this row id
+abbrev pub is_left : ℕ → ℕ → EmptyEntry → Bool
+is_left tx row e = (e.tx == tx) && (e.row == row)
+
+-- an entry of the same key with the same row id that tells of the same table, of any transaction
+pub record IsLike (a e : EmptyEntry) : Type 0 where
+  pub vacant_in : e.vacant_in ≡ a.vacant_in
+  pub row : e.row ≡ a.row
+  pub table : e.table ≡ a.table
+  pub key : e.key ≡ a.key
+
+-- an entry with this row id tells of no table, or of this one
+abbrev pub MayTell : ℕ → Option ℕ → EmptyEntry → Type 0
+MayTell row owner e = e.row ≡ row → (e.vacant_in ≡ None) ⊎ (e.vacant_in ≡ owner)
 
 -- an entry stands among others
 pub record Stands (es : List EmptyEntry) (e : EmptyEntry) : Type 0 where

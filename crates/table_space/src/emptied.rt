@@ -44,6 +44,14 @@ impl EmptyEntry {
         }
     }
 
+    /// The same entry, but of a transaction. Constant time.
+    pub fn of(&self, tx: TxNo) -> EmptyEntry
+        ensures is { result ≡ record self.now { tx = tx } }
+        ensures key { result.key ≡ self.now.key }
+    {
+        EmptyEntry { tx, ..*self }
+    }
+
     /// Whether two entries are the same. Constant time.
     pub fn is_same(&self, other: &EmptyEntry) -> bool
         ensures { result ≡ is_eq (empty_cmp self.now other.now) }

@@ -2,7 +2,7 @@
 ghost use Rattle.std.specs.Prelude.{◌≡◌, ◌≢◌, ◌^◌, ◌↔◌, ◌<◌, ◌≤◌, [], ℕ, None, Some, IsTrue, true, false, IsSome, MatchOption, OnOk, OnErr, length};
 ghost use Rattle.std.specs.List.{count_by};
 ghost use Rattle.std.specs.BTreeMap as tree;
-ghost use Rattle.table_space.specs.Emptied.{is_of, is_at, made, Stands, HasOneMore, IsExchanged, IsNextTx, IsOneOf, IsWhole};
+ghost use Rattle.table_space.specs.Emptied.{is_of, is_at, made, Stands, HasOneMore, IsExchanged, IsNextTx, IsOneOf, IsLike, IsWhole};
 ghost use Rattle.table_space.specs.Numbers.{name_cmp};
 ghost use Rattle.table_space.specs.Index.{row_at, RowBecomes, KeepsRows, StateBecomes, LosesOne};
 ghost use Rattle.table_space.specs.Ordered.{Each};
@@ -167,7 +167,8 @@ impl Index {
 
     /// The least transaction from one on that has an entry, if there is one. Logarithmic.
     pub fn next_tx(&self, from: TxNo) -> Option<TxNo>
-        ensures { MatchOption result (Each (λ e. e.tx < from) self.now.empty) (IsNextTx self.now.empty from) }
+        ensures next { MatchOption result (Each (λ e. e.tx < from) self.now.empty) (IsNextTx self.now.empty from) }
+        ensures few { Each (λ e. e.tx < 2 ^ 64) self.now.empty }
     {
         match self
             .empty
@@ -221,6 +222,26 @@ impl Index {
         let from = EmptyEntry::first(tx, vacant_in, row);
         let to = EmptyEntry::first(tx, vacant_in, row + 1);
         self.empty.items.count_below(&to) - self.empty.items.count_below(&from)
+    }
+
+    /// An entry like one, but of any transaction from one on, if there is one: of the least. In logarithmic time for each transaction that has an entry.
+    pub fn like_from(&self, like: EmptyEntry, from: TxNo) -> Option<EmptyEntry>
+        requires { IsWhole like }
+        ensures { MatchOption result (Each (λ e. from ≤ e.tx → ¬ IsLike like e) self.now.empty) (λ e. Stands self.now.empty e × IsLike like e) }
+    {
+        match self.next_tx(from) {
+            None => None,
+            Some(tx) => {
+                let entry = like.of(tx);
+                if self.has(&entry) {
+                    return Some(entry);
+                }
+                match tx.checked_add(1) {
+                    None => None,
+                    Some(next) => self.like_from(like, next),
+                }
+            }
+        }
     }
 }
 
