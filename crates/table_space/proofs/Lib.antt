@@ -23,3 +23,4 @@ pub mod KeyStates
 pub mod TransactionBounds
 pub mod EntriesAt
 pub mod LikeEntries
+pub mod EntriesLeft

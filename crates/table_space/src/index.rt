@@ -2,7 +2,7 @@
 ghost use Rattle.std.specs.Prelude.{◌≡◌, ◌≢◌, ◌^◌, ◌↔◌, ◌<◌, ◌≤◌, [], ℕ, None, Some, IsTrue, true, false, IsSome, MatchOption, OnOk, OnErr, length};
 ghost use Rattle.std.specs.List.{count_by};
 ghost use Rattle.std.specs.BTreeMap as tree;
-ghost use Rattle.table_space.specs.Emptied.{is_of, is_at, made, Stands, HasOneMore, IsExchanged, IsNextTx, IsOneOf, IsLike, IsWhole};
+ghost use Rattle.table_space.specs.Emptied.{is_of, is_at, is_left, MayTell, made, Stands, HasOneMore, IsExchanged, IsNextTx, IsOneOf, IsLike, IsWhole};
 ghost use Rattle.table_space.specs.Numbers.{name_cmp};
 ghost use Rattle.table_space.specs.Index.{row_at, RowBecomes, KeepsRows, StateBecomes, LosesOne};
 ghost use Rattle.table_space.specs.Ordered.{Each};
@@ -217,7 +217,8 @@ impl Index {
     /// How many entries of a transaction with a row id tell of a table, or do not. Logarithmic.
     pub fn count_at(&self, tx: TxNo, vacant_in: Option<TableNo>, row: u64) -> u32
         requires { row < 2 ^ 32 }
-        ensures { result ≡ count_by (is_at tx vacant_in row) self.now.empty }
+        ensures count { result ≡ count_by (is_at tx vacant_in row) self.now.empty }
+        ensures few { length self.now.empty < 2 ^ 32 }
     {
         let from = EmptyEntry::first(tx, vacant_in, row);
         let to = EmptyEntry::first(tx, vacant_in, row + 1);
@@ -239,6 +240,47 @@ impl Index {
                 match tx.checked_add(1) {
                     None => None,
                     Some(next) => self.like_from(like, next),
+                }
+            }
+        }
+    }
+
+    /// How many entries a transaction has with a row id, all of which tell of this table, or of none. Logarithmic.
+    pub fn count_of(&self, tx: TxNo, row: u64, owner: Option<TableNo>) -> u32
+        requires row { row < 2 ^ 32 }
+        requires told { Each (MayTell row owner) self.now.empty }
+        ensures { result ≡ count_by (is_left tx row) self.now.empty }
+    {
+        let untold = self.count_at(tx, None, row);
+        match owner {
+            None => untold,
+            Some(_) => untold + self.count_at(tx, owner, row),
+        }
+    }
+
+    /// The least transaction from one on that has so many entries with a row id, all of which tell of this table, or of none. In logarithmic time for
+    /// each transaction that has an entry.
+    pub fn transaction_with(
+        &self,
+        count: u32,
+        row: u64,
+        owner: Option<TableNo>,
+        from: TxNo,
+    ) -> Option<TxNo>
+        requires some { 0 < count }
+        requires row { row < 2 ^ 32 }
+        requires told { Each (MayTell row owner) self.now.empty }
+        ensures { MatchOption result ((tx : ℕ) → from ≤ tx → count_by (is_left tx row) self.now.empty ≢ count) (λ tx. count_by (is_left tx row) self.now.empty ≡ count) }
+    {
+        match self.next_tx(from) {
+            None => None,
+            Some(tx) => {
+                if self.count_of(tx, row, owner) == count {
+                    return Some(tx);
+                }
+                match tx.checked_add(1) {
+                    None => None,
+                    Some(next) => self.transaction_with(count, row, owner, next),
                 }
             }
         }
