@@ -19,3 +19,10 @@ pub mod OwnedPages
 pub mod Tallies
 pub mod ShownNames
 pub mod Standing
+pub mod EmptyOrder
+pub mod EmptyLists
+pub mod KeyStates
+pub mod TransactionBounds
+pub mod EntriesAt
+pub mod LikeEntries
+pub mod EntriesLeft

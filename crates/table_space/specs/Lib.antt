@@ -1,8 +1,10 @@
 pub mod Catalogue
 pub mod Counted
 pub mod Directory
+pub mod Emptied
 pub mod Entries
 pub mod Fronts
+pub mod Index
 pub mod Indexed
 pub mod Kept
 pub mod Marks

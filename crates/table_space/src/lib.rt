@@ -5,9 +5,11 @@
 
 pub mod catalogue;
 pub mod directory;
+mod emptied;
 mod entries;
 pub mod entry;
 mod front;
+mod index;
 mod ledger;
 mod lengths;
 mod marks;

@@ -311,6 +311,14 @@ impl<K: Ord + Copy> Store<K> {
         }
     }
 
+    /// How many nodes there are, with an item or without. Constant time.
+    pub fn nodes(&self) -> u32
+        requires { length self.now.items + length self.now.spare < 2 ^ 32 }
+        ensures { result ≡ length self.now.items + length self.now.spare }
+    {
+        self.items.len() + self.spare.len()
+    }
+
     /// Makes a node more, which holds any item meanwhile. Answers `Memory` only for want of memory, and all is as it was then. Logarithmic.
     pub fn reserve(&mut self, alloc: Global, item: K) -> Result<(), Memory>
         ensures items { self.new.items ≡ self.old.items }
