@@ -1,6 +1,7 @@
 //! The names and shapes of tables, the directory of keys, and which slots are free or reserved.
 //!
 //! Knows no disk and no bytes of pages. Read `entry`, `entries`, `catalogue`, `marks`, `slot`, `slots`, `directory`, `tree`, `pages`, `rooms`, `reserves`, `ledger` and `tables`; then `space` and `places`.
+//! `emptied` and `index` stand beside them: the directory's next form, whose entries of a transaction are found and counted exactly. Nothing calls it yet.
 #![tactic(auto)]
 
 pub mod catalogue;
